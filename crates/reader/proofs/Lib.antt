@@ -1,0 +1,4 @@
+pub mod Results
+pub mod Lists
+pub mod Following
+pub mod Rows
