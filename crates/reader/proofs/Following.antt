@@ -62,18 +62,18 @@ module _ (b : List ℕ) (e f : ℕ) where
   if-moves : (ifs p z : ℕ) → Moves z (ifAt b e f ifs p z)
   if-moves ifs p z =
       choose-both (Moves z) (leb 16 ifs) _ _ tt
-        (made-then (valueAt b e f z) (λ v. z < v .1) (λ x. z < x .1) _ (value-moves z) λ v hv.
-         made-then (halfAt b e f (v .1)) (λ n. v .1 < n .1) (λ x. z < x .1) _ (field-moves 2 _ (v .1) (omega arith)) λ n hn. omega arith)
+      (made-then (valueAt b e f z) (λ v. z < v .1) (λ x. z < x .1) _ (value-moves z) λ v hv.
+      made-then (halfAt b e f (v .1)) (λ n. v .1 < n .1) (λ x. z < x .1) _ (field-moves 2 _ (v .1) (omega arith)) λ n hn. omega arith)
 
   pub node-moves : (ifs p : ℕ) → Moves p (nodeAt b e f ifs p)
   node-moves ifs p =
       made-then (byteAt b e f p) (λ t. p < t .1) (λ x. p < x .1) _ (field-moves 1 _ p (omega arith)) λ t ht.
       choose-both (Moves p) (eqb (t .0) 1) _ _ (made-then (listAt b e f (t .1)) (λ a. t .1 < a .1) (λ x. p < x .1) _ (list-moves (t .1)) (λ a h. omega arith))
       (choose-both (Moves p) (eqb (t .0) 2) _ _
-        (made-weaker (ifAt b e f ifs p (t .1)) (λ x. t .1 < x .1) (λ x. p < x .1) (λ x k. omega arith) (if-moves ifs p (t .1)))
+      (made-weaker (ifAt b e f ifs p (t .1)) (λ x. t .1 < x .1) (λ x. p < x .1) (λ x k. omega arith) (if-moves ifs p (t .1)))
       (choose-both (Moves p) (eqb (t .0) 3) _ _
-        (made-weaker (callAt b e f (t .1)) (λ x. t .1 < x .1) (λ x. p < x .1) (λ x k. omega arith) (call-moves (t .1)))
-        tt))
+      (made-weaker (callAt b e f (t .1)) (λ x. t .1 < x .1) (λ x. p < x .1) (λ x k. omega arith) (call-moves (t .1)))
+      tt))
 
   -- what follows a node ends no earlier than it begins
   followed-later : (rest : ℕ → ℕ → Read Body) → ((i q : ℕ) → Moves q (rest i q)) → (ifs p z : ℕ) (h : Head) → made (followed rest f ifs p h z) (λ x. z ≤ x .1)
@@ -81,7 +81,7 @@ module _ (b : List ℕ) (e f : ℕ) where
   followed-later rest on ifs p z (branches v field n) =
       made-then (rest (ifs + 1) z) (λ s. z < s .1) (λ x. z ≤ x .1) _ (on (ifs + 1) z) λ s hs.
       choose-both (λ r. made r (λ x. z ≤ x .1)) (eqb (s .1 - z) n) _ _
-        (made-then (rest (ifs + 1) (s .1)) (λ u. s .1 < u .1) (λ x. z ≤ x .1) _ (on (ifs + 1) (s .1)) (λ u hu. omega arith)) tt
+      (made-then (rest (ifs + 1) (s .1)) (λ u. s .1 < u .1) (λ x. z ≤ x .1) _ (on (ifs + 1) (s .1)) (λ u hu. omega arith)) tt
   followed-later rest on ifs p z (calls o vs n) =
       made-then (rest ifs z) (λ r. z < r .1) (λ x. z ≤ x .1) _ (on ifs z) λ r hr. omega arith
 
@@ -94,11 +94,11 @@ module _ (b : List ℕ) (e f : ℕ) where
 
   -- what follows a node depends only on what is read from there on
   followed-same : (r s : ℕ → ℕ → Read Body) (ifs p z : ℕ) (h : Head) → ((i q : ℕ) → Moves q (r i q)) → ((i q : ℕ) → z ≤ q → r i q ≡ s i q)
-    → followed r f ifs p h z ≡ followed s f ifs p h z
+      → followed r f ifs p h z ≡ followed s f ifs p h z
   followed-same r s ifs p z (returns vs) on same = refl
   followed-same r s ifs p z (branches v field n) on same =
       then-same (r (ifs + 1) z) (λ u. z < u .1) _ _ (on (ifs + 1) z) (λ u hu.
-        choose-same (eqb (u .1 - z) n) _ _ _ _ (ap (λ x. then x (λ w. Ok (branch p v (u .0) (w .0), w .1))) (same (ifs + 1) (u .1) (omega arith))) refl)
+      choose-same (eqb (u .1 - z) n) _ _ _ _ (ap (λ x. then x (λ w. Ok (branch p v (u .0) (w .0), w .1))) (same (ifs + 1) (u .1) (omega arith))) refl)
       ∙ ap (λ x. then x (λ u. elim (eqb (u .1 - z) n) [ true ↦ then (s (ifs + 1) (u .1)) (λ w. Ok (branch p v (u .0) (w .0), w .1)) | false ↦ denied q.BranchLength f field ])) (same (ifs + 1) z (omega arith))
   followed-same r s ifs p z (calls o vs n) on same = ap (λ x. then x (λ w. Ok (call p o vs n (w .0), w .1))) (same ifs z (omega arith))
 
@@ -121,4 +121,4 @@ module _ (b : List ℕ) (e f : ℕ) where
   body-is ifs p =
       body-enough (e - p) (suc (e - p)) ifs p (omega arith) (omega arith)
       ∙ then-same (nodeAt b e f ifs p) (λ x. p < x .1) _ _ (node-moves ifs p) λ x hx.
-        followed-same (bodyBy b e f (e - p)) (bodyAt b e f) ifs p (x .1) (x .0) (body-moves (e - p)) (λ i q l. body-enough (e - p) (e - q) i q (omega arith) (omega arith))
+      followed-same (bodyBy b e f (e - p)) (bodyAt b e f) ifs p (x .1) (x .0) (body-moves (e - p)) (λ i q l. body-enough (e - p) (e - q) i q (omega arith) (omega arith))

@@ -17,7 +17,7 @@ use Rattle.reader.proofs.Results.{made-any, made-then, then-ext, placed-then, 
 
 module _ (b : List ℕ) (e f : ℕ) where
   pub values-more : (n i p : ℕ) → i < n
-    → placed (valuesAt b e f (n - i) p) ≡ then (valueAt b e f p) (λ v. placed (valuesAt b e f (n - (i + 1)) (v .1)))
+      → placed (valuesAt b e f (n - i) p) ≡ then (valueAt b e f p) (λ v. placed (valuesAt b e f (n - (i + 1)) (v .1)))
   values-more n i p h =
       let s : n - i ≡ suc (n - (i + 1)) = omega arith in
       ap (λ k. placed (valuesAt b e f k p)) s
@@ -48,7 +48,7 @@ module _ (b : List ℕ) (e f : ℕ) where
 
   -- the count, and the place after its values
   pub list-stands : (p n z y : ℕ) → countAt b e f p ≡ Ok (n, z) → placed (valuesAt b e f n z) ≡ Ok y
-    → Ok (record { count = n; place = z }, y) ≡ listed p (listAt b e f p)
+      → Ok (record { count = n; place = z }, y) ≡ listed p (listAt b e f p)
   list-stands p n z y h k =
       sym (ap (listed p) (go (λ x. valuesAt b e f (x .0) (x .1)) h refl)
       ∙ listed-at n p (valuesAt b e f n z) (values-long b e f n z)

@@ -1,5 +1,5 @@
 -- Laws of results, and of one read after another.
-use mathlib.Core.Path.{_≡_, refl, ap, _∙_}
+use mathlib.Core.Path.{_≡_, refl, ap, subst, _∙_}
 use mathlib.Core.Logic.{_⊎_, inl, inr}
 use mathlib.Core.Bool.{Bool, true, false}
 use Prim.Native.Nat.{ℕ}
@@ -16,13 +16,13 @@ made-any (Err e) = tt
 
 -- what holds of a result holds of what is made of it
 pub made-then : {X Y : Type 0} (r : Result X Fault) (P : X → Type 0) (Q : Y → Type 0) (g : X → Result Y Fault)
-  → made r P → ((x : X) → P x → made (g x) Q) → made (then r g) Q
+    → made r P → ((x : X) → P x → made (g x) Q) → made (then r g) Q
 made-then (Ok x) P Q g m k = k x m
 made-then (Err e) P Q g m k = tt
 
 -- a continuation may be replaced by one that agrees where it is used
 pub then-same : {X Y : Type 0} (r : Result X Fault) (P : X → Type 0) (g h : X → Result Y Fault)
-  → made r P → ((x : X) → P x → g x ≡ h x) → then r g ≡ then r h
+    → made r P → ((x : X) → P x → g x ≡ h x) → then r g ≡ then r h
 then-same (Ok x) P g h m k = k x m
 then-same (Err e) P g h m k = refl
 
@@ -48,12 +48,12 @@ then-ok (Ok x) g y h = (x, refl, h)
 then-ok (Err e) g y h = absurd (let z : _≡_ {A = ℕ} 0 1 = cc in omega arith)
 
 pub pass-ok : {Y : Type 0} (t : Bool) (e : Fault) (x : Result Y Fault) (y : Y)
-  → _≡_ {A = Result Y Fault} (elim t [ true ↦ x | false ↦ Err e ]) (Ok y) → (t ≡ true) × (x ≡ Ok y)
+    → _≡_ {A = Result Y Fault} (elim t [ true ↦ x | false ↦ Err e ]) (Ok y) → (t ≡ true) × (x ≡ Ok y)
 pass-ok true e x y h = (refl, h)
 pass-ok false e x y h = absurd (let z : _≡_ {A = ℕ} 0 1 = cc in omega arith)
 
 pub shun-ok : {Y : Type 0} (t : Bool) (e : Fault) (x : Result Y Fault) (y : Y)
-  → _≡_ {A = Result Y Fault} (elim t [ true ↦ Err e | false ↦ x ]) (Ok y) → (t ≡ false) × (x ≡ Ok y)
+    → _≡_ {A = Result Y Fault} (elim t [ true ↦ Err e | false ↦ x ]) (Ok y) → (t ≡ false) × (x ≡ Ok y)
 shun-ok true e x y h = absurd (let z : _≡_ {A = ℕ} 0 1 = cc in omega arith)
 shun-ok false e x y h = (refl, h)
 
@@ -73,3 +73,11 @@ pass {x = x} y h k = ap (λ s. elim s [ true ↦ x | false ↦ y ]) h ∙ k
 
 pub shun : {X : Type 0} {t : Bool} (x : X) {y : X} {w : X} → t ≡ false → y ≡ w → _≡_ {A = X} (elim t [ true ↦ x | false ↦ y ]) w
 shun x {y = y} h k = ap (λ s. elim s [ true ↦ x | false ↦ y ]) h ∙ k
+
+pub placed-ok : {X : Type 0} (r : Read X) (z : ℕ) → placed r ≡ Ok z → (x : X × ℕ) × (r ≡ Ok x) × (x .1 ≡ z)
+placed-ok (Ok x) z h = (x, refl, cc)
+placed-ok (Err e) z h = absurd (let z : _≡_ {A = ℕ} 0 1 = cc in omega arith)
+
+pub made-ok : {X : Type 0} (r : Result X Fault) (P : X → Type 0) (x : X) → made r P → r ≡ Ok x → P x
+made-ok (Ok y) P x m h = let e : y ≡ x = cc in subst P e m
+made-ok (Err e) P x m h = absurd (let z : _≡_ {A = ℕ} 0 1 = cc in omega arith)

@@ -65,28 +65,46 @@ countAt b e f p = rangeAt q.ListLength 0 8 b e f p
 -- a type
 abbrev pub typeAt : List ℕ → (e f p : ℕ) → Read Ty
 typeAt b e f p = then (byteAt b e f p) λ n.
-  elim (eqb (n .0) 1) [ true ↦ Ok (t.Int, n .1) | false ↦
-  elim (eqb (n .0) 2) [ true ↦ Ok (t.Bool, n .1) | false ↦
-  elim (eqb (n .0) 3) [ true ↦ Ok (t.Packet, n .1) | false ↦
-  elim (eqb (n .0) 4) [ true ↦ Ok (t.Alias, n .1) | false ↦ denied q.KnownType f p ] ] ] ]
+    elim (eqb (n .0) 1) [
+      | true ↦ Ok (t.Int, n .1)
+      | false ↦
+          elim (eqb (n .0) 2) [
+            | true ↦ Ok (t.Bool, n .1)
+            | false ↦
+                elim (eqb (n .0) 3) [
+                  | true ↦ Ok (t.Packet, n .1)
+                  | false ↦
+                      elim (eqb (n .0) 4) [ true ↦ Ok (t.Alias, n .1) | false ↦ denied q.KnownType f p ]
+                ]
+          ]
+    ]
 
 -- a value's tag, then its payload; a truth byte other than 0 and 1 is a fault of the tag
 abbrev pub truthAt : (f p : ℕ) → ℕ × ℕ → Read Value
 truthAt f p n =
-  elim (eqb (n .0) 0) [ true ↦ Ok (v.Truth false, n .1) | false ↦
-  elim (eqb (n .0) 1) [ true ↦ Ok (v.Truth true, n .1) | false ↦ denied q.KnownValue f p ] ]
+    elim (eqb (n .0) 0) [
+      | true ↦ Ok (v.Truth false, n .1)
+      | false ↦
+          elim (eqb (n .0) 1) [ true ↦ Ok (v.Truth true, n .1) | false ↦ denied q.KnownValue f p ]
+    ]
 
 abbrev pub valueAt : List ℕ → (e f p : ℕ) → Read Value
 valueAt b e f p = then (byteAt b e f p) λ t.
-  elim (eqb (t .0) 16) [ true ↦ then (wordAt b e f (t .1)) (λ n. Ok (v.Integer (n .0), n .1)) | false ↦
-  elim (eqb (t .0) 17) [ true ↦ then (byteAt b e f (t .1)) (λ n. truthAt f p n) | false ↦
-  elim (eqb (t .0) 18) [ true ↦ then (byteAt b e f (t .1)) (λ n. Ok (v.Variable (n .0), n .1)) | false ↦ denied q.KnownValue f p ] ] ]
+    elim (eqb (t .0) 16) [
+      | true ↦ then (wordAt b e f (t .1)) (λ n. Ok (v.Integer (n .0), n .1))
+      | false ↦
+          elim (eqb (t .0) 17) [
+            | true ↦ then (byteAt b e f (t .1)) (λ n. truthAt f p n)
+            | false ↦
+                elim (eqb (t .0) 18) [ true ↦ then (byteAt b e f (t .1)) (λ n. Ok (v.Variable (n .0), n .1)) | false ↦ denied q.KnownValue f p ]
+          ]
+    ]
 
 -- n values in a row
 abbrev pub valuesAt : List ℕ → (e f n p : ℕ) → Read (List Operand)
 valuesAt b e f zero p = Ok ([], p)
 valuesAt b e f (suc n) p =
-  then (valueAt b e f p) λ v. then (valuesAt b e f n (v .1)) λ vs. Ok (record { place = p; value = v .0 } ∷ vs .0, vs .1)
+    then (valueAt b e f p) λ v. then (valuesAt b e f n (v .1)) λ vs. Ok (record { place = p; value = v .0 } ∷ vs .0, vs .1)
 
 -- a count and that many values
 abbrev pub listAt : List ℕ → (e f p : ℕ) → Read (List Operand)

@@ -26,27 +26,36 @@ pub data Head : Type 0 where
 
 -- what follows the tag of an if, which stands at p under other ifs
 abbrev pub ifAt : List ℕ → (e f ifs p z : ℕ) → Read Head
-ifAt b e f ifs p z = elim (leb 16 ifs) [ true ↦ denied q.Nesting f p | false ↦
-  then (valueAt b e f z) λ v. then (halfAt b e f (v .1)) λ n. Ok (branches (record { place = z; value = v .0 }) (v .1) (n .0), n .1) ]
+ifAt b e f ifs p z = elim (leb 16 ifs) [
+  | true ↦ denied q.Nesting f p
+  | false ↦
+      then (valueAt b e f z) λ v. then (halfAt b e f (v .1)) λ n. Ok (branches (record { place = z; value = v .0 }) (v .1) (n .0), n .1)
+]
 
 -- what follows the tag of a call
 abbrev pub callAt : List ℕ → (e f z : ℕ) → Read Head
 callAt b e f z = then (byteAt b e f z) λ k. then (byteAt b e f (k .1)) λ i. then (listAt b e f (i .1)) λ a. then (countAt b e f (a .1)) λ n.
-  Ok (calls (operation (k .0) (i .0)) (a .0) (n .0), n .1)
+    Ok (calls (operation (k .0) (i .0)) (a .0) (n .0), n .1)
 
 -- the node at p, under a number of ifs
 abbrev pub nodeAt : List ℕ → (e f ifs p : ℕ) → Read Head
 nodeAt b e f ifs p = then (byteAt b e f p) λ t.
-  elim (eqb (t .0) 1) [ true ↦ then (listAt b e f (t .1)) (λ a. Ok (returns (a .0), a .1)) | false ↦
-  elim (eqb (t .0) 2) [ true ↦ ifAt b e f ifs p (t .1) | false ↦
-  elim (eqb (t .0) 3) [ true ↦ callAt b e f (t .1) | false ↦ denied q.KnownNode f p ] ] ]
+    elim (eqb (t .0) 1) [
+      | true ↦ then (listAt b e f (t .1)) (λ a. Ok (returns (a .0), a .1))
+      | false ↦
+          elim (eqb (t .0) 2) [
+            | true ↦ ifAt b e f ifs p (t .1)
+            | false ↦
+                elim (eqb (t .0) 3) [ true ↦ callAt b e f (t .1) | false ↦ denied q.KnownNode f p ]
+          ]
+    ]
 
 -- a node at p with what follows it from z on; a first branch takes exactly the bytes that its length says
 abbrev pub followed : (rest : ℕ → ℕ → Read Body) → (f ifs p : ℕ) → Head → ℕ → Read Body
 followed rest f ifs p (returns vs) z = Ok (return p vs, z)
 followed rest f ifs p (branches v field n) z =
-  then (rest (ifs + 1) z) λ s.
-  elim (eqb (s .1 - z) n) [ true ↦ then (rest (ifs + 1) (s .1)) (λ t. Ok (branch p v (s .0) (t .0), t .1)) | false ↦ denied q.BranchLength f field ]
+    then (rest (ifs + 1) z) λ s.
+    elim (eqb (s .1 - z) n) [ true ↦ then (rest (ifs + 1) (s .1)) (λ t. Ok (branch p v (s .0) (t .0), t .1)) | false ↦ denied q.BranchLength f field ]
 followed rest f ifs p (calls o vs n) z = then (rest ifs z) λ r. Ok (call p o vs n (r .0), r .1)
 
 -- by what is left of the record: with nothing left, the tag lies outside

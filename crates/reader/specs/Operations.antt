@@ -51,24 +51,72 @@ index o = numbers o .1
 -- the operation that a kind and an index name
 abbrev pub operation : (k i : ℕ) → Operation
 operation k i =
-  elim (eqb k 0) [ true ↦
-    elim (eqb i 0) [ true ↦ Compute Add | false ↦
-    elim (eqb i 1) [ true ↦ Compute Subtract | false ↦
-    elim (eqb i 2) [ true ↦ Compute Times | false ↦
-    elim (eqb i 3) [ true ↦ Compute BitAnd | false ↦
-    elim (eqb i 4) [ true ↦ Compute BitOr | false ↦
-    elim (eqb i 5) [ true ↦ Compute BitXor | false ↦ Unknown k i ] ] ] ] ] ] | false ↦
-  elim (eqb k 1) [ true ↦
-    elim (eqb i 0) [ true ↦ Compare Equal | false ↦
-    elim (eqb i 1) [ true ↦ Compare Less | false ↦ Unknown k i ] ] | false ↦
-  elim (eqb k 2) [ true ↦
-    elim (eqb i 0) [ true ↦ Connect And | false ↦
-    elim (eqb i 1) [ true ↦ Connect Or | false ↦ Unknown k i ] ] | false ↦
-  elim (eqb k 3) [ true ↦
-    elim (eqb i 0) [ true ↦ New | false ↦
-    elim (eqb i 1) [ true ↦ Kill | false ↦
-    elim (eqb i 2) [ true ↦ Read | false ↦
-    elim (eqb i 3) [ true ↦ Update | false ↦ Unknown k i ] ] ] ] | false ↦
-  elim (eqb k 4) [ true ↦ Enq i | false ↦
-  elim (eqb k 5) [ true ↦ Deq i | false ↦
-  elim (eqb k 6) [ true ↦ Function i | false ↦ Unknown k i ] ] ] ] ] ] ]
+    elim (eqb k 0) [
+      | true ↦
+          elim (eqb i 0) [
+            | true ↦ Compute Add
+            | false ↦
+                elim (eqb i 1) [
+                  | true ↦ Compute Subtract
+                  | false ↦
+                      elim (eqb i 2) [
+                        | true ↦ Compute Times
+                        | false ↦
+                            elim (eqb i 3) [
+                              | true ↦ Compute BitAnd
+                              | false ↦
+                                  elim (eqb i 4) [
+                                    | true ↦ Compute BitOr
+                                    | false ↦
+                                        elim (eqb i 5) [ true ↦ Compute BitXor | false ↦ Unknown k i ]
+                                  ]
+                            ]
+                      ]
+                ]
+          ]
+      | false ↦
+          elim (eqb k 1) [
+            | true ↦
+                elim (eqb i 0) [
+                  | true ↦ Compare Equal
+                  | false ↦
+                      elim (eqb i 1) [ true ↦ Compare Less | false ↦ Unknown k i ]
+                ]
+            | false ↦
+                elim (eqb k 2) [
+                  | true ↦
+                      elim (eqb i 0) [
+                        | true ↦ Connect And
+                        | false ↦
+                            elim (eqb i 1) [ true ↦ Connect Or | false ↦ Unknown k i ]
+                      ]
+                  | false ↦
+                      elim (eqb k 3) [
+                        | true ↦
+                            elim (eqb i 0) [
+                              | true ↦ New
+                              | false ↦
+                                  elim (eqb i 1) [
+                                    | true ↦ Kill
+                                    | false ↦
+                                        elim (eqb i 2) [
+                                          | true ↦ Read
+                                          | false ↦
+                                              elim (eqb i 3) [ true ↦ Update | false ↦ Unknown k i ]
+                                        ]
+                                  ]
+                            ]
+                        | false ↦
+                            elim (eqb k 4) [
+                              | true ↦ Enq i
+                              | false ↦
+                                  elim (eqb k 5) [
+                                    | true ↦ Deq i
+                                    | false ↦
+                                        elim (eqb k 6) [ true ↦ Function i | false ↦ Unknown k i ]
+                                  ]
+                            ]
+                      ]
+                ]
+          ]
+    ]

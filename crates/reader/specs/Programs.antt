@@ -30,13 +30,13 @@ ended e f r = then r λ x. elim (eqb (x .1) e) [ true ↦ Ok x | false ↦ denie
 -- what the record of function f holds from s on; the record begins at p and ends at e
 abbrev pub recordIn : List ℕ → (e f p s : ℕ) → Read Function
 recordIn b e f p s =
-  then (rangeAt q.DepthLimit 0 7 b e f s) λ d. then (signatureAt b e f (d .1)) λ ps. then (signatureAt b e f (ps .1)) λ rs.
-  ended e f (then (bodyAt b e f 0 (rs .1)) λ t. Ok (record { place = p; depth = d .0; params = ps .0; results = rs .0; body = t .0 }, t .1))
+    then (rangeAt q.DepthLimit 0 7 b e f s) λ d. then (signatureAt b e f (d .1)) λ ps. then (signatureAt b e f (ps .1)) λ rs.
+    ended e f (then (bodyAt b e f 0 (rs .1)) λ t. Ok (record { place = p; depth = d .0; params = ps .0; results = rs .0; body = t .0 }, t .1))
 
 -- the record of function f at p; the length that it announces lies inside the program, which ends at e
 abbrev pub recordAt : List ℕ → (e f p : ℕ) → Read Function
 recordAt b e f p = then (halfAt b e f p) λ n.
-  elim (leb (n .1 + n .0) e) [ true ↦ recordIn b (n .1 + n .0) f p (n .1) | false ↦ denied q.Inside f p ]
+    elim (leb (n .1 + n .0) e) [ true ↦ recordIn b (n .1 + n .0) f p (n .1) | false ↦ denied q.Inside f p ]
 
 -- n records, from that of function f on
 abbrev pub recordsAt : List ℕ → (e n f p : ℕ) → Read (List Function)
@@ -50,13 +50,13 @@ lengthOk b = leb 2 (length b) && leb (length b) 4096 && eqb (half b 0 + 2) (leng
 -- the version, then how many threads, own queues and functions
 abbrev pub headerAt : List ℕ → (e f p : ℕ) → Read Header
 headerAt b e f p =
-  then (rangeAt q.Version 1 1 b e f p) λ v. then (rangeAt q.ThreadCount 1 8 b e f (v .1)) λ t.
-  then (rangeAt q.QueueCount 0 6 b e f (t .1)) λ o. then (rangeAt q.FunctionCount (t .0) 64 b e f (o .1)) λ n.
-  Ok (record { threads = t .0; queues = o .0; functions = n .0 }, n .1)
+    then (rangeAt q.Version 1 1 b e f p) λ v. then (rangeAt q.ThreadCount 1 8 b e f (v .1)) λ t.
+    then (rangeAt q.QueueCount 0 6 b e f (t .1)) λ o. then (rangeAt q.FunctionCount (t .0) 64 b e f (o .1)) λ n.
+    Ok (record { threads = t .0; queues = o .0; functions = n .0 }, n .1)
 
 abbrev pub programIn : List ℕ → (e : ℕ) → Read Program
 programIn b e = then (headerAt b e 255 2) λ h.
-  ended e 255 (then (recordsAt b e (h .0 .functions) 0 (h .1)) λ fs. Ok (record { threads = h .0 .threads; queues = h .0 .queues; functions = fs .0 }, fs .1))
+    ended e 255 (then (recordsAt b e (h .0 .functions) 0 (h .1)) λ fs. Ok (record { threads = h .0 .threads; queues = h .0 .queues; functions = fs .0 }, fs .1))
 
 -- layer 1: the program that the bytes write down, or the first fault
 abbrev pub reading : List ℕ → Result Program Fault

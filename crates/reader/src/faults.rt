@@ -19,6 +19,11 @@ impl Fault {
     pub fn new(question: Question, function: u8, place: usize) -> Fault
         ensures { λ r. ⌜ r ≡ fault question function place ⌝ }
     {
-        Fault { question, layer: question.layer(), function, place }
+        Fault {
+            question,
+            layer: question.layer(),
+            function,
+            place,
+        }
     }
 }

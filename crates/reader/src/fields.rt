@@ -99,7 +99,13 @@ impl Window<'_> {
     }
 
     /// A byte from `low` to `high`, or the question that it answers no.
-    pub(crate) fn range(&self, question: Question, low: u8, high: u8, place: usize) -> Result<(u8, usize), Fault>
+    pub(crate) fn range(
+        &self,
+        question: Question,
+        low: u8,
+        high: u8,
+        place: usize,
+    ) -> Result<(u8, usize), Fault>
         ensures reads { λ r. ⌜ r ≡ In (now (self .entry)) (rangeAt question low high) place ⌝ }
         ensures onward { λ r. ⌜ Onward place (now (self .entry) .end) r ⌝ }
     {
@@ -138,6 +144,12 @@ impl Window<'_> {
     {
         let (count, first) = self.count(place)?;
         let next = self.values(count, first)?;
-        Ok((Values { count, place: first }, next))
+        Ok((
+            Values {
+                count,
+                place: first,
+            },
+            next,
+        ))
     }
 }

@@ -1,13 +1,13 @@
 //! Reading encoded programs: fields, values, nodes, bodies, records and whole programs.
 //! Everything is read from the caller's bytes, which are never copied.
-pub mod questions;
+pub mod bodies;
 pub mod faults;
+pub mod fields;
+pub mod headers;
+pub mod nodes;
+pub mod operations;
+pub mod programs;
+pub mod questions;
 pub mod types;
 pub mod values;
-pub mod operations;
 pub mod windows;
-pub mod fields;
-pub mod nodes;
-pub mod bodies;
-pub mod headers;
-pub mod programs;

@@ -14,10 +14,20 @@ use crate::windows::Window;
 /// A node without what follows it.
 #[derive(Clone, Copy)]
 pub enum Node {
-    Return { values: Values },
+    Return {
+        values: Values,
+    },
     /// The first branch follows; `length` stands at `field` and says how many bytes it takes.
-    Branch { value: Operand, field: usize, length: u16 },
-    Call { operation: Operation, arguments: Values, results: u8 },
+    Branch {
+        value: Operand,
+        field: usize,
+        length: u16,
+    },
+    Call {
+        operation: Operation,
+        arguments: Values,
+        results: u8,
+    },
 }
 
 /// The most ifs on a path.
@@ -42,14 +52,28 @@ impl Window<'_> {
                 }
                 let (value, field) = self.value(next)?;
                 let (length, first) = self.half(field)?;
-                Ok((Node::Branch { value: Operand { place: next, value }, field, length }, first))
+                Ok((
+                    Node::Branch {
+                        value: Operand { place: next, value },
+                        field,
+                        length,
+                    },
+                    first,
+                ))
             }
             0x03 => {
                 let (kind, next) = self.byte(next)?;
                 let (index, next) = self.byte(next)?;
                 let (arguments, next) = self.list(next)?;
                 let (results, next) = self.count(next)?;
-                Ok((Node::Call { operation: Operation::named(kind, index), arguments, results }, next))
+                Ok((
+                    Node::Call {
+                        operation: Operation::named(kind, index),
+                        arguments,
+                        results,
+                    },
+                    next,
+                ))
             }
             _ => Err(self.fault(Question::KnownNode, place)),
         }

@@ -57,7 +57,14 @@ impl Window<'_> {
         let (threads, next) = self.range(Question::ThreadCount, 1, 8, next)?;
         let (queues, next) = self.range(Question::QueueCount, 0, 6, next)?;
         let (functions, next) = self.range(Question::FunctionCount, threads, 64, next)?;
-        Ok((Header { threads, queues, functions }, next))
+        Ok((
+            Header {
+                threads,
+                queues,
+                functions,
+            },
+            next,
+        ))
     }
 }
 
@@ -65,13 +72,21 @@ impl Window<'_> {
 fn record(program: &[u8], function: u8, place: usize) -> Result<usize, Fault>
     ensures { λ r. ⌜ r ≡ placed (recordAt (now (program .entry)) (length (now (program .entry))) function place) ⌝ }
 {
-    let outer = Window { bytes: program, end: program.len(), function };
+    let outer = Window {
+        bytes: program,
+        end: program.len(),
+        function,
+    };
     let (length, next) = outer.half(place)?;
     let length = usize::from(length);
     if length > program.len() - next {
         return Err(outer.fault(Question::Inside, place));
     }
-    let window = Window { bytes: program, end: next + length, function };
+    let window = Window {
+        bytes: program,
+        end: next + length,
+        function,
+    };
     window.contents(place, next)
 }
 
@@ -91,7 +106,9 @@ fn has_its_length(program: &[u8]) -> bool
     ensures { λ r. ⌜ r ≡ lengthOk (now (program .entry)) ⌝ }
 {
     let length = program.len();
-    2 <= length && length <= 4096 && usize::from(program[0]) * 256 + usize::from(program[1]) + 2 == length
+    2 <= length
+        && length <= 4096
+        && usize::from(program[0]) * 256 + usize::from(program[1]) + 2 == length
 }
 
 /// Layer 1 of a program: its counts, or the first fault.
@@ -101,7 +118,11 @@ fn whole(program: &[u8]) -> Result<Header, Fault>
     if !has_its_length(program) {
         return Err(Fault::new(Question::Length, OUTSIDE, 0));
     }
-    let window = Window { bytes: program, end: program.len(), function: OUTSIDE };
+    let window = Window {
+        bytes: program,
+        end: program.len(),
+        function: OUTSIDE,
+    };
     let (header, next) = window.header(2)?;
     let next = records(program, header.functions, next)?;
     if next != program.len() {

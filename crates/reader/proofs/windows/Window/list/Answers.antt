@@ -8,5 +8,6 @@ returns c =
     let s = c .args .self .now in
     record {
       reads = list-stands (s .bytes .now) (s .end) (s .function) (c .args .place) (c .in-Continue-count .count) (c .in-Continue-count .first) (c .in-Continue-next .next)
-        (sym (c .in-Continue-count .ensures tt .reads)) (sym (c .in-Continue-next .ensures tt .reads));
-      onward = search needs }
+          (sym (c .in-Continue-count .ensures tt .reads)) (sym (c .in-Continue-next .ensures tt .reads));
+      onward = search needs;
+    }
