@@ -46,6 +46,7 @@ module _ (b : List ℕ) (e f : ℕ) where
       let m = span-end b p z (Encoding.word n) s in
       let h = half-is (n / 65536) p (p + 2) (span-first b p z (Encoding.half (n / 65536)) (Encoding.half (n % 65536)) s) in
       let i = half-is (n % 65536) (p + 2) z (span-second b p z (Encoding.half (n / 65536)) (Encoding.half (n % 65536)) s) in
+      let d : getD b (p + 2 + 1) 0 ≡ getD b (p + 3) 0 = ap (λ y. getD b y 0) (omega arith) in
       field-reads 4 (r.word b p) n p (omega arith) (omega arith) ∙ ap (λ y. Ok (n, y)) (omega arith)
 
   pub value-reads : (v : Value) (p z : ℕ) → Span b p z (Encoding.value v) → z ≤ e → valueAt b e f p ≡ Ok (v, z)

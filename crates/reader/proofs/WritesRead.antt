@@ -53,11 +53,11 @@ module _ (b : List ℕ) (small : (i : ℕ) → getD b i 0 < 256) (e f : ℕ) whe
       let i0 = small p in
       let i1 = small (p + 1) in
       let i2 = small (p + 2) in
-      let i3 = small (p + 2 + 1) in
+      let i3 = small (p + 3) in
       let hi : r.half b p ≡ x .0 / 65536 = omega arith in
-      let lo : r.half b (p + 2) ≡ x .0 % 65536 = omega arith in
+      let lo : getD b (p + 2) 0 * 256 + getD b (p + 3) 0 ≡ x .0 % 65536 = omega arith in
       let c : getD b (p + 1 + 1) 0 ≡ getD b (p + 2) 0 = ap (λ y. getD b y 0) (omega arith) in
-      let d : getD b (p + 1 + 1 + 1) 0 ≡ getD b (p + 2 + 1) 0 = ap (λ y. getD b y 0) (omega arith) in
+      let d : getD b (p + 1 + 1 + 1) 0 ≡ getD b (p + 3) 0 = ap (λ y. getD b y 0) (omega arith) in
       ((omega arith, (omega arith, (omega arith, (omega arith, omega arith)))), omega arith)
 
   pub record ValueSaid (p : ℕ) (x : Value × ℕ) : Type 0 where

@@ -39,7 +39,7 @@ abbrev pub half : List ℕ → ℕ → ℕ
 half b p = getD b p 0 * 256 + getD b (p + 1) 0
 
 abbrev pub word : List ℕ → ℕ → ℕ
-word b p = half b p * 65536 + half b (p + 2)
+word b p = half b p * 65536 + (getD b (p + 2) 0 * 256 + getD b (p + 3) 0)
 
 -- a field of w bytes whose value is n
 abbrev pub fieldAt : (w n e f p : ℕ) → Read ℕ

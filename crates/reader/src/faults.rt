@@ -2,11 +2,9 @@
 ghost use mathlib.Core.Path.{_≡_};
 ghost use Rattle.reader.specs.Faults.{fault};
 use crate::questions::Question;
-use crate::questions::QuestionDebug;
-use crate::questions::QuestionPartialEq;
 
 /// The first question answered no, where: its layer, the function (255 outside records), the byte place.
-#[derive(Clone, Copy, PartialEq, Eq, Debug)]
+#[derive(Clone, Copy)]
 pub struct Fault {
     pub question: Question,
     pub layer: u8,

@@ -51,9 +51,9 @@ impl Window<'_> {
         if self.end < 4 || place > self.end - 4 {
             return Err(self.fault(Question::Inside, place));
         }
-        let (high, next) = self.half(place)?;
-        let (low, next) = self.half(next)?;
-        Ok((u32::from(high) * 65536 + u32::from(low), next))
+        let high = u32::from(self.bytes[place]) * 256 + u32::from(self.bytes[place + 1]);
+        let low = u32::from(self.bytes[place + 2]) * 256 + u32::from(self.bytes[place + 3]);
+        Ok((high * 65536 + low, place + 4))
     }
 
     /// A value, and the place after it.

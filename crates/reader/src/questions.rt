@@ -3,7 +3,7 @@ ghost use mathlib.Core.Path.{_≡_};
 ghost use Rattle.reader.specs.Questions.{number, layer};
 
 /// A question by what it asks; the first one answered no decides.
-#[derive(Clone, Copy, PartialEq, Eq, Debug)]
+#[derive(Clone, Copy)]
 pub enum Question {
     // Layer 1: the bytes.
     Length,
