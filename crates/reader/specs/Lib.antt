@@ -8,3 +8,4 @@ pub mod Programs
 pub mod Encoding
 pub mod Spans
 pub mod Readers
+pub mod Cases

@@ -12,3 +12,4 @@ pub mod readers;
 pub mod types;
 pub mod values;
 pub mod windows;
+pub mod cases;
