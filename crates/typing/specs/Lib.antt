@@ -1,0 +1,4 @@
+pub mod Signatures
+pub mod Typing
+pub mod Marks
+pub mod Layers
