@@ -1,6 +1,6 @@
 -- What is asked of a body, question by question, and the first no.
 -- i is the function that a fault carries, p a place. The marks H say what is known of each bound variable: a spent owner is absent.
-use mathlib.Core.Bool.{Bool, true, false, _&&_, not}
+use mathlib.Core.Bool.{Bool, true, false, _&&_, _||_, not}
 use mathlib.Core.List.{List, [], _∷_, _++_, map}
 use mathlib.Core.Option.{Option, none, some}
 use Prim.Native.Nat.{ℕ, zero, suc, _+_}
@@ -56,7 +56,7 @@ fitting (has τ) wanted = fits τ wanted
 -- the variables that the earlier values of a list named
 abbrev pub member : ℕ → List ℕ → Bool
 member x [] = false
-member x (y ∷ ys) = elim (eqb x y) [ true ↦ true | false ↦ member x ys ]
+member x (y ∷ ys) = eqb x y || member x ys
 
 abbrev pub names : Value → List ℕ → Bool
 names (integer n) named = false
@@ -115,7 +115,7 @@ owner (has τ) = elim τ [ int ↦ false | bool ↦ false | packet ↦ true | al
 
 abbrev pub all-spent : Ctx → Bool
 all-spent [] = true
-all-spent (e ∷ H) = elim (owner e) [ true ↦ false | false ↦ all-spent H ]
+all-spent (e ∷ H) = not (owner e) && all-spent H
 
 -- are the values the j variables from n on, in order?
 abbrev pub is-variable : ℕ → Value → Bool
