@@ -14,8 +14,8 @@ use Rattle.reader.specs.declared.values.Operand.{Operand}
 use Rattle.reader.proofs.Results.{then-ok, ok-same, go}
 use Rattle.typing.specs.Signatures.{Ty, int, bool, packet, alias}
 use Rattle.typing.specs.Typing.{integer, truth, variable, Entry, absent, has, Ctx, Unowned, unowned-int, unowned-bool, unowned-alias}
-use Rattle.typing.specs.Marks.{fits, bound, entry, unspent, fitting, note, once, spend, give, gives}
-use Rattle.typing.proofs.Answered.{asked-ok, ok-asked}
+use Rattle.typing.specs.Marks.{fits, bound, entry, unspent, fitting, note, once, spend, give, gives, test}
+use Rattle.typing.proofs.Answered.{ask-ok, ok-ask, asked-ok, ok-asked}
 
 -- the entry of a variable
 pub data At : ℕ → Entry → Ctx → Type 0 where
@@ -167,6 +167,20 @@ given-give {named} {H} {ρ} i v g =
     (ok-asked _ _ _ (unspent (entry H (v .value))) _ (a .is-unspent)
     (ok-asked _ _ _ (fitting (entry H (v .value)) ρ) _ (a .is-fitting)
     (ok-asked _ _ _ (once ρ (v .value) named) _ (a .is-once) (ap Ok (a .spends)))))
+
+-- the value of an if is given as bool, which leaves the marks as they are
+pub given-bool : {named : List ℕ} {H : Ctx} {v : Value} {H′ : Ctx} → Given named H v bool H′ → H ≡ H′
+given-bool g = given-grants g .spends
+
+pub test-given : (i : ℕ) (H : Ctx) (v : Operand) → test i H v ≡ Ok tt → Given [] H (v .value) bool H
+test-given i H v h =
+    let (b, r) = asked-ok _ _ _ (bound H (v .value)) _ h in
+    value-given [] H (v .value) bool b (ask-ok _ _ _ (fitting (entry H (v .value)) bool) r) tt
+
+pub given-test : {H : Ctx} (i : ℕ) (v : Operand) → Given [] H (v .value) bool H → test i H v ≡ Ok tt
+given-test {H} i v g =
+    let a = given-grants g in
+    ok-asked _ _ _ (bound H (v .value)) _ (a .is-bound) (ok-ask _ _ _ (fitting (entry H (v .value)) bool) (a .is-fitting))
 
 pub gives-uses : (i : ℕ) (vs : List Operand) (ρs : List Ty) (H : Ctx) (named : List ℕ) (H′ : Ctx)
     → length vs ≡ length ρs → gives i H named vs ρs ≡ Ok H′ → Uses named H vs ρs H′

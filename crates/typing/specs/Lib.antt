@@ -2,3 +2,4 @@ pub mod Signatures
 pub mod Typing
 pub mod Marks
 pub mod Layers
+pub mod Theorems
