@@ -26,14 +26,17 @@ sound : (P : Program) (i : ℕ) (F : Function) → Every Unlent (F .results) →
     → (P ∣ H ⊢ᵉ e ⦂ F .results) × Room (length H) e × Deep P (F .depth) (length H) e
 sound P i F u H (return p vs) h =
     let (c, r) = asked-ok _ _ _ (eqb (length vs) (length (F .results))) _ h in
-    let (H′, g, s) = then-ok (gives i H [] vs (F .results)) _ tt r in
-    (by-node P (F .results) H (return p vs) .1
-    record {
-      left = H′;
-      uses = gives-uses i vs (F .results) H [] H′ (eqb→eq (length vs) (length (F .results)) c) g;
-      spent = ask-ok _ _ _ (all-spent H′) s;
-      unlent = u
-    }, tt, tt)
+    let (H′, g, s) = then-ok (gives i H [] vs (F .results)) _ tt r in (
+      by-node P (F .results) H (return p vs) .1
+          record {
+            left = H′;
+            uses = gives-uses i vs (F .results) H [] H′ (eqb→eq (length vs) (length (F .results)) c) g;
+            spent = ask-ok _ _ _ (all-spent H′) s;
+            unlent = u;
+          },
+      tt,
+      tt,
+    )
 sound P i F u H (branch p v e₁ e₂) h =
     let (_, t, r) = then-ok (test i H v) _ tt h in
     let (_, a₁, a₂) = then-ok (body P i F H e₁) _ tt r in
@@ -51,12 +54,15 @@ sound P i F u H (call p f vs j e) h =
     let us = gives-uses i vs (s .params) H [] H′ l g in
     let same : length H′ ≡ length H = uses-length us in
     let (de, re, pe) = sound P i F u (H′ ++ map has (s .results)) e r₄ in
-    let n = grown H H′ (s .results) j same m in
-    (by-node P (F .results) H (call p f vs j e) .1
-    record { params = s .params; results = s .results; left = H′; callee = found; count = m; uses = us; rest = de },
-    ((let k : length H′ + j ≤ 16 = leb→le (length H′ + j) 16 few in omega arith), subst (λ k. Room k e) n re),
-    (depth-sound (F .depth) (callee-depth P f) (length H) j e (subst (λ k. T (depth-holds (F .depth) (callee-depth P f) (is-tail k j e))) same deep),
-    subst (λ k. Deep P (F .depth) k e) n pe))
+    let n = grown H H′ (s .results) j same m in (
+      by-node P (F .results) H (call p f vs j e) .1
+          record { params = s .params; results = s .results; left = H′; callee = found; count = m; uses = us; rest = de },
+      ((let k : length H′ + j ≤ 16 = leb→le (length H′ + j) 16 few in omega arith), subst (λ k. Room k e) n re),
+      (
+        depth-sound (F .depth) (callee-depth P f) (length H) j e (subst (λ k. T (depth-holds (F .depth) (callee-depth P f) (is-tail k j e))) same deep),
+        subst (λ k. Deep P (F .depth) k e) n pe,
+      ),
+    )
 
 complete : (P : Program) (i : ℕ) (F : Function) (H : Ctx) (e : Body) → P ∣ H ⊢ᵉ e ⦂ F .results → Room (length H) e → Deep P (F .depth) (length H) e
     → body P i F H e ≡ Ok tt

@@ -43,7 +43,7 @@ pub data Given (named : List ℕ) : Ctx → Value → Ty → Ctx → Type 0 wher
 pub data Uses : List ℕ → Ctx → List Operand → List Ty → Ctx → Type 0 where
   uses-end : {named : List ℕ} {H : Ctx} → Uses named H [] [] H
   uses-more : {named : List ℕ} {H H₁ H′ : Ctx} {v : Operand} {vs : List Operand} {ρ : Ty} {ρs : List Ty}
-    → Given named H (v .value) ρ H₁ → Uses (note (v .value) named) H₁ vs ρs H′ → Uses named H (v ∷ vs) (ρ ∷ ρs) H′
+      → Given named H (v .value) ρ H₁ → Uses (note (v .value) named) H₁ vs ρs H′ → Uses named H (v ∷ vs) (ρ ∷ ρs) H′
 
 pub at-entry : (H : Ctx) (x : ℕ) → x < length H → At x (getD H x absent) H
 at-entry [] x l = absurd (not-suc-le-zero l)
@@ -149,7 +149,7 @@ given-grants {H = H} {ρ = ρ} (given-variable {x = x} s u) =
       is-unspent = subst (λ z. T (unspent z)) here l;
       is-fitting = subst (λ z. T (fitting z ρ)) here f;
       is-once = s;
-      spends = use-spend u
+      spends = use-spend u;
     }
 
 pub give-given : (i : ℕ) (named : List ℕ) (H : Ctx) (v : Operand) (ρ : Ty) (H′ : Ctx) → give i H named v ρ ≡ Ok H′ → Given named H (v .value) ρ H′

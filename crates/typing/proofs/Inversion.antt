@@ -103,7 +103,7 @@ node-from (rule-call {Γ₀ = Γ₀} {ρs = ρs} {σs = σs} found m ds de t) H 
       callee = found;
       count = m;
       uses = u;
-      rest = weaken (covers-append c′ (map has σs)) de
+      rest = weaken (covers-append c′ (map has σs)) de;
     }
 node-from (rule-return {Γ = Γ} ds u) H c =
     let (H′, g, c′) = uses-complete ds [] (nothing Γ) Γ H (empty-right Γ) c clear-none in

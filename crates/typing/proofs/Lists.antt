@@ -74,9 +74,14 @@ owners-there f y (at-there {x = z} b) = elim (f z b) [ inl c ↦ inl (at-there c
 -- { x : ρ } beside what the values after it take; only x can be an owner more
 join : {ρ : Ty} {x : ℕ} {H H₁ S₂ H′ : Ctx} → UseAt ρ x H H₁ → S₂ ▷ H′ ≔ H₁ → ¬ At x (has packet) S₂
     → (S₁ : Ctx) × (S : Ctx) × Only x ρ S₁ × S₁ ⊕ S₂ ≔ S × S ▷ H′ ≔ H × ((y : ℕ) → At y (has packet) S → At y (has packet) S₂ ⊎ ((ρ ≡ packet) × (y ≡ x)))
-join {ρ} (use-here u) (both {e₁ = s₂} {Γ₁ = S₂} a r) n =
-    (has ρ ∷ nothing S₂, has ρ ∷ S₂, only-here (nothing-empty S₂),
-    both (use-beside u a not-owner) (empty-left S₂), both (use-before u a not-owner) r, owners-here)
+join {ρ} (use-here u) (both {e₁ = s₂} {Γ₁ = S₂} a r) n = (
+  has ρ ∷ nothing S₂,
+  has ρ ∷ S₂,
+  only-here (nothing-empty S₂),
+  both (use-beside u a not-owner) (empty-left S₂),
+  both (use-before u a not-owner) r,
+  owners-here,
+)
   where
     not-owner : ¬ (s₂ ≡ has packet)
     not-owner e = n (rw e at-here)
@@ -94,11 +99,17 @@ value-sound : {named : List ℕ} {H H₁ H′ S₂ : Ctx} {v : Value} {ρ : Ty} 
 value-sound {S₂ = S₂} given-integer t c = (nothing S₂, S₂, rule-int (nothing-empty S₂), empty-left S₂, t, c)
 value-sound {S₂ = S₂} given-truth t c = (nothing S₂, S₂, rule-bool (nothing-empty S₂), empty-left S₂, t, c)
 value-sound {named} {ρ = ρ} (given-variable {x = x} s u) t c =
-    let (S₁, S, o, p, t′, owners) = join u t (c x (member-last x named)) in
-    (S₁, S, rule-var o, p, t′,
-    λ y m a. elim (owners y a) [
-        inl b ↦ c y (member-more y x named m) b
-        | inr e ↦ once-clear x named (e .0) s (subst (λ z. T (member z named)) (e .1) m) ])
+    let (S₁, S, o, p, t′, owners) = join u t (c x (member-last x named)) in (
+      S₁,
+      S,
+      rule-var o,
+      p,
+      t′,
+      λ y m a. elim (owners y a) [
+        | inl b ↦ c y (member-more y x named m) b
+        | inr e ↦ once-clear x named (e .0) s (subst (λ z. T (member z named)) (e .1) m)
+      ],
+    )
 
 -- a list of values
 pub uses-sound : {named : List ℕ} {H H′ : Ctx} {vs : List Operand} {ρs : List Ty} → Uses named H vs ρs H′
@@ -157,13 +168,15 @@ value-complete : {named : List ℕ} {v : Value} {ρ : Ty} {S₁ S₂ S Γ₁ Γ 
 value-complete {H = H} (rule-int e) p t c f = (H, given-integer, empty-covers e t c, λ y m b. f y m (beside-owner p b))
 value-complete {H = H} (rule-bool e) p t c f = (H, given-truth, empty-covers e t c, λ y m b. f y m (beside-owner p b))
 value-complete {named} {ρ = ρ} {S₂ = S₂} {S = S} (rule-var {x = x} o) p t c f =
-    let (H₁, u, c₁) = used o t c in
-    (H₁,
-    given-variable (clear-once ρ x named (λ e m. f x m (subst (λ r. At x (has r) S) e (only-at o p)))) u,
-    c₁,
-    λ y m b. elim (member-split y x named m) [
-        inl n ↦ f y n (beside-owner p b)
-        | inr e ↦ not-twice o p (subst (λ z. At z (has packet) S₂) e b) ])
+    let (H₁, u, c₁) = used o t c in (
+      H₁,
+      given-variable (clear-once ρ x named (λ e m. f x m (subst (λ r. At x (has r) S) e (only-at o p)))) u,
+      c₁,
+      λ y m b. elim (member-split y x named m) [
+        | inl n ↦ f y n (beside-owner p b)
+        | inr e ↦ not-twice o p (subst (λ z. At z (has packet) S₂) e b)
+      ],
+    )
 
 -- a list of values
 pub uses-complete : {vs : List Operand} {ρs : List Ty} {S : Ctx} → S ⊢ˢ vs ⦂ ρs → (named : List ℕ) (Γ₀ Γ H : Ctx) → S ▷ Γ₀ ≔ Γ → Covers Γ H → Clear named S

@@ -51,9 +51,10 @@ each-complete asks i (G ∷ Gs) h =
     (each-complete asks (i + 1) Gs (λ k F e. let n : i + suc k ≡ i + 1 + k = omega arith in subst (λ m. asks m F ≡ Ok tt) n (h (suc k) F e)))
 
 pub each-decided : (asks : ℕ → Function → Result (Unit {0}) Fault) (P : Program) → (each asks 0 (P .functions) ≡ Ok tt) ↔ EachFunction P (λ i F. asks i F ≡ Ok tt)
-each-decided asks P =
-    ((λ h i F e. subst (λ m. asks m F ≡ Ok tt) (zero-add i) (each-sound asks 0 (P .functions) h i F e)),
-    λ h. each-complete asks 0 (P .functions) (λ i F e. subst (λ m. asks m F ≡ Ok tt) (sym (zero-add i)) (h i F e)))
+each-decided asks P = (
+  (λ h i F e. subst (λ m. asks m F ≡ Ok tt) (zero-add i) (each-sound asks 0 (P .functions) h i F e)),
+  λ h. each-complete asks 0 (P .functions) (λ i F e. subst (λ m. asks m F ≡ Ok tt) (sym (zero-add i)) (h i F e)),
+)
 
 no-alias-sound : (i p : ℕ) (τs : List Ty) → no-alias i p τs ≡ Ok tt → Every Unlent τs
 no-alias-sound i p [] h = every-end
@@ -97,9 +98,10 @@ thread-complete P i F a = decided (leb (P .threads) i) (nleb→lt (P .threads) i
 
 -- layer 2 of a function
 outside-decided : (P : Program) (i : ℕ) (F : Function) → (outside P i F ≡ Ok tt) ↔ (Thread-ready P i F × Every Unlent (F .results))
-outside-decided P i F =
-    ((λ h. let (t, r) = asked-ok _ _ _ (thread-ready P i F) _ h in (thread-sound P i F t, no-alias-sound i (results-place F) (F .results) r)),
-    λ a. ok-asked _ _ _ (thread-ready P i F) _ (thread-complete P i F (a .0)) (no-alias-complete i (results-place F) (a .1)))
+outside-decided P i F = (
+  (λ h. let (t, r) = asked-ok _ _ _ (thread-ready P i F) _ h in (thread-sound P i F t, no-alias-sound i (results-place F) (F .results) r)),
+  λ a. ok-asked _ _ _ (thread-ready P i F) _ (thread-complete P i F (a .0)) (no-alias-complete i (results-place F) (a .1)),
+)
 
 -- layer 3 of a function that gives no alias
 abbrev Kept : Program → Function → ℕ → Type 0
@@ -118,21 +120,23 @@ programs-decided P = (there, back)
     there h =
         let (_, a, b) = then-ok (each (outside P) 0 (P .functions)) _ tt h in
         let outer : EachFunction P (λ i F. Thread-ready P i F × Every Unlent (F .results)) =
-            λ i F e. outside-decided P i F .0 (each-decided (outside P) P .0 a i F e) in
+        λ i F e. outside-decided P i F .0 (each-decided (outside P) P .0 a i F e) in
         let inner : EachFunction P (λ i F. Kept P F (length (F .params))) =
-            λ i F e. inside-decided P i F (outer i F e .1) .0 (each-decided (inside P) P .0 b i F e) in
+        λ i F e. inside-decided P i F (outer i F e .1) .0 (each-decided (inside P) P .0 b i F e) in
         record {
           typed = λ i F e. inner i F e .0;
           threads = λ i F e. outer i F e .0;
           room = λ i F e. inner i F e .1;
-          depths = λ i F e. inner i F e .2
+          depths = λ i F e. inner i F e .2;
         }
+
     back : Accepted P → layers P ≡ Ok tt
     back a =
         go _ (each-decided (outside P) P .1 (λ i F e. outside-decided P i F .1 (a .threads i F e, typed-unlent (a .typed i F e))))
         (each-decided (inside P) P .1 (λ i F e. inside-decided P i F (typed-unlent (a .typed i F e)) .1 (a .typed i F e, a .room i F e, a .depths i F e)))
 
 pub bytes-decided : Bytes-decided
-bytes-decided b =
-    ((λ h. let (P, r, l) = then-ok (reading b) layers tt h in (P, r, programs-decided P .0 l)),
-    λ a. go layers (a .1) (programs-decided (a .0) .1 (a .2)))
+bytes-decided b = (
+  (λ h. let (P, r, l) = then-ok (reading b) layers tt h in (P, r, programs-decided P .0 l)),
+  λ a. go layers (a .1) (programs-decided (a .0) .1 (a .2)),
+)

@@ -3,3 +3,4 @@ pub mod Typing
 pub mod Marks
 pub mod Layers
 pub mod Theorems
+pub mod Cases

@@ -8,13 +8,11 @@ use lib.ListN.{getElem?}
 use Rattle.reader.specs.declared.operations.Operation.{Operation}
 use Rattle.reader.specs.declared.operations.Operation.the-variants as o
 use Rattle.reader.specs.Syntax.{Function, Program}
-
 -- the types by their names in the language: a packet is an owner
 pub use Rattle.reader.specs.declared.types.Ty.{Ty}
 pub use Rattle.reader.specs.declared.types.Ty.the-variants.{Int as int, Bool as bool, Packet as packet, Alias as alias}
 
 infix 20 _⇒_
-
 pub record Signature : Type 0 where
   pub params : List Ty
   pub results : List Ty

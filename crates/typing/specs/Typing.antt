@@ -10,16 +10,13 @@ use Rattle.reader.specs.declared.values.Operand.{Operand}
 use Rattle.reader.specs.declared.operations.Operation.{Operation}
 use Rattle.reader.specs.Syntax.{Body, return, branch, call, Function, Program}
 use Rattle.typing.specs.Signatures.{Ty, int, bool, packet, alias, _⇒_, signature, callee-depth}
-
 pub use Rattle.reader.specs.declared.values.Value.the-variants.{Integer as integer, Truth as truth, Variable as variable}
-
 -- what a context says of one variable
 pub use Rattle.typing.specs.declared.entries.Entry.{Entry}
 pub use Rattle.typing.specs.declared.entries.Entry.the-variants.{Absent as absent, Has as has}
 
 infix 10 _⊕_≔_ _▷_≔_
 infix 5 _⊢ᵛ_⦂_ _⊢ˢ_⦂_ _∣_⊢ᵉ_⦂_
-
 -- a context: one entry for each bound variable, in their order; it has the variables that are not absent
 abbrev pub Ctx : Type 0
 Ctx = List Entry
@@ -102,39 +99,39 @@ pub data _⊢ᵛ_⦂_ : Ctx → Value → Ty → Type 0 where
 pub data _⊢ˢ_⦂_ : Ctx → List Operand → List Ty → Type 0 where
   no-value : {Γ : Ctx} → Empty Γ → Γ ⊢ˢ [] ⦂ []
   one-more : {Γ Γ₁ Γ₂ : Ctx} {v : Operand} {vs : List Operand} {τ : Ty} {τs : List Ty}
-    → Γ₁ ⊢ᵛ v .value ⦂ τ
-    → Γ₂ ⊢ˢ vs ⦂ τs
-    → Γ₁ ⊕ Γ₂ ≔ Γ
-    → Γ ⊢ˢ v ∷ vs ⦂ τ ∷ τs
+      → Γ₁ ⊢ᵛ v .value ⦂ τ
+      → Γ₂ ⊢ˢ vs ⦂ τs
+      → Γ₁ ⊕ Γ₂ ≔ Γ
+      → Γ ⊢ˢ v ∷ vs ⦂ τ ∷ τs
 
 -- Γ ⊢ e : τ₁ × … × τₙ, in a program P
 pub data _∣_⊢ᵉ_⦂_ (P : Program) : Ctx → Body → List Ty → Type 0 where
   -- a call: its arguments, then what follows it, where its results are bound
   rule-call : {Γ Γ₁ Γ₀ : Ctx} {p : ℕ} {f : Operation} {vs : List Operand} {j : ℕ} {e : Body} {ρs σs τs : List Ty}
-    → signature P f ≡ some (ρs ⇒ σs)
-    → j ≡ length σs
-    → Γ₁ ⊢ˢ vs ⦂ ρs
-    → P ∣ Γ₀ ++ map has σs ⊢ᵉ e ⦂ τs
-    → Γ₁ ▷ Γ₀ ≔ Γ
-    → P ∣ Γ ⊢ᵉ call p f vs j e ⦂ τs
+      → signature P f ≡ some (ρs ⇒ σs)
+      → j ≡ length σs
+      → Γ₁ ⊢ˢ vs ⦂ ρs
+      → P ∣ Γ₀ ++ map has σs ⊢ᵉ e ⦂ τs
+      → Γ₁ ▷ Γ₀ ≔ Γ
+      → P ∣ Γ ⊢ᵉ call p f vs j e ⦂ τs
   -- a return, which gives no alias
   rule-return : {Γ : Ctx} {p : ℕ} {vs : List Operand} {τs : List Ty}
-    → Γ ⊢ˢ vs ⦂ τs
-    → Every Unlent τs
-    → P ∣ Γ ⊢ᵉ return p vs ⦂ τs
+      → Γ ⊢ˢ vs ⦂ τs
+      → Every Unlent τs
+      → P ∣ Γ ⊢ᵉ return p vs ⦂ τs
   -- an if: its value, then either branch from the same context
   rule-if : {Γ Γ₁ Γ₂ : Ctx} {p : ℕ} {v : Operand} {e₁ e₂ : Body} {τs : List Ty}
-    → Γ₁ ⊢ᵛ v .value ⦂ bool
-    → P ∣ Γ₂ ⊢ᵉ e₁ ⦂ τs
-    → P ∣ Γ₂ ⊢ᵉ e₂ ⦂ τs
-    → Γ₁ ▷ Γ₂ ≔ Γ
-    → P ∣ Γ ⊢ᵉ branch p v e₁ e₂ ⦂ τs
+      → Γ₁ ⊢ᵛ v .value ⦂ bool
+      → P ∣ Γ₂ ⊢ᵉ e₁ ⦂ τs
+      → P ∣ Γ₂ ⊢ᵉ e₂ ⦂ τs
+      → Γ₁ ▷ Γ₂ ≔ Γ
+      → P ∣ Γ ⊢ᵉ branch p v e₁ e₂ ⦂ τs
   -- weakening: a variable may stay unused, an owner never
   rule-weak : {Γ Γ′ : Ctx} {x : ℕ} {ρ : Ty} {e : Body} {τs : List Ty}
-    → P ∣ Γ ⊢ᵉ e ⦂ τs
-    → Added x ρ Γ Γ′
-    → Unowned ρ
-    → P ∣ Γ′ ⊢ᵉ e ⦂ τs
+      → P ∣ Γ ⊢ᵉ e ⦂ τs
+      → Added x ρ Γ Γ′
+      → Unowned ρ
+      → P ∣ Γ′ ⊢ᵉ e ⦂ τs
 
 -- a function: its body gives its results, from a context that has its parameters
 abbrev pub Function-typed : Program → Function → Type 0
