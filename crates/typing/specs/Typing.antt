@@ -1,4 +1,5 @@
 -- The type system: contexts, the rules, the depth rule and the limits, and which programs are accepted.
+-- Γ ⊢ e : τs says that e gives values of the types τs and needs of the bound variables just what the context Γ has.
 use mathlib.Core.Path.{_≡_}
 use mathlib.Core.Bool.{Bool}
 use mathlib.Core.List.{List, [], _∷_, _++_, map}
@@ -11,7 +12,6 @@ use Rattle.reader.specs.declared.operations.Operation.{Operation}
 use Rattle.reader.specs.Syntax.{Body, return, branch, call, Function, Program}
 use Rattle.typing.specs.Signatures.{Ty, int, bool, packet, alias, _⇒_, signature, callee-depth}
 pub use Rattle.reader.specs.declared.values.Value.the-variants.{Integer as integer, Truth as truth, Variable as variable}
--- what a context says of one variable
 pub use Rattle.typing.specs.declared.entries.Entry.{Entry}
 pub use Rattle.typing.specs.declared.entries.Entry.the-variants.{Absent as absent, Has as has}
 
