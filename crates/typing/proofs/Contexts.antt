@@ -1,7 +1,6 @@
 -- Contexts, variable by variable.
-use mathlib.Core.Path.{_≡_, refl, ap}
 use mathlib.Core.List.{List, [], _∷_, _++_}
-use Prim.Native.Nat.{ℕ, zero, suc}
+use Prim.Native.Nat.{ℕ}
 use Rattle.reader.specs.Syntax.{Program, Body}
 use Rattle.typing.specs.Signatures.{Ty, int, bool, packet, alias}
 use Rattle.typing.specs.Typing.{Entry, absent, has, Ctx, Beside, beside-int, beside-bool, beside-alias, Before, before-int, before-bool, before-alias, before-owner, Entrywise, neither, first, second, joined, Everywhere, nowhere, both, _⊕_≔_, _▷_≔_, Empty, empty-end, empty-more, Added, added-here, added-there, Unowned, _∣_⊢ᵉ_⦂_, rule-weak}

@@ -1,20 +1,19 @@
 -- What it means that values are given, and that the questions put to them say just that.
 use mathlib.Core.Path.{_≡_, refl, sym, ap, _∙_, subst}
-use mathlib.Core.Bool.{Bool, true, false}
+use mathlib.Core.Bool.{Bool}
 use mathlib.Core.List.{List, [], _∷_}
 use Prim.Native.Nat.{ℕ, zero, suc, _<_}
 use native.Mathlib.Nat.{suc-inj, not-suc-le-zero, le-of-suc-le-suc}
 use native.Mathlib.Omega.{arith}
-use lib.Dec.{T, ltb, ltb→lt, lt→ltb}
+use lib.Dec.{T, T-not, ltb→lt, lt→ltb}
 use lib.ListN.{length, getD}
-use Rattle.std.specs.declared.result.Result.{Result}
-use Rattle.std.specs.declared.result.Result.the-variants.{Ok, Err}
+use Rattle.std.specs.declared.result.Result.the-variants.{Ok}
 use Rattle.reader.specs.declared.values.Value.{Value}
 use Rattle.reader.specs.declared.values.Operand.{Operand}
 use Rattle.reader.proofs.Results.{then-ok, ok-same, go}
 use Rattle.typing.specs.Signatures.{Ty, int, bool, packet, alias}
 use Rattle.typing.specs.Typing.{integer, truth, variable, Entry, absent, has, Ctx, Unowned, unowned-int, unowned-bool, unowned-alias}
-use Rattle.typing.specs.Marks.{fits, bound, entry, unspent, fitting, note, once, spend, give, gives, test}
+use Rattle.typing.specs.Marks.{fits, bound, entry, unspent, fitting, member, note, once, spend, give, gives, test}
 use Rattle.typing.proofs.Answered.{ask-ok, ok-ask, asked-ok, ok-asked}
 
 -- the entry of a variable
@@ -44,6 +43,10 @@ pub data Uses : List ℕ → Ctx → List Operand → List Ty → Ctx → Type 0
   uses-end : {named : List ℕ} {H : Ctx} → Uses named H [] [] H
   uses-more : {named : List ℕ} {H H₁ H′ : Ctx} {v : Operand} {vs : List Operand} {ρ : Ty} {ρs : List Ty}
       → Given named H (v .value) ρ H₁ → Uses (note (v .value) named) H₁ vs ρs H′ → Uses named H (v ∷ vs) (ρ ∷ ρs) H′
+
+-- what is given as packet was not named before
+pub once-clear : {ρ : Ty} (x : ℕ) (named : List ℕ) → ρ ≡ packet → T (once ρ (variable x) named) → T (member x named) → ⊥
+once-clear x named e t = T-not (member x named) (subst (λ r. T (once r (variable x) named)) e t)
 
 pub at-entry : (H : Ctx) (x : ℕ) → x < length H → At x (getD H x absent) H
 at-entry [] x l = absurd (not-suc-le-zero l)

@@ -12,11 +12,11 @@ use Rattle.reader.specs.declared.values.Operand.{Operand}
 use Rattle.reader.specs.declared.operations.Operation.{Operation}
 use Rattle.reader.specs.Syntax.{Body, return, branch, call, Program}
 use Rattle.typing.specs.Signatures.{Ty, int, bool, packet, alias, _⇒_, signature}
-use Rattle.typing.specs.Typing.{Entry, absent, has, Ctx, Before, before-int, before-bool, before-alias, before-owner, Entrywise, neither, first, second, joined, nowhere, both, _⊕_≔_, _▷_≔_, Empty, empty-end, empty-more, unowned-int, unowned-bool, unowned-alias, Unlent, Every, _⊢ᵛ_⦂_, no-value, one-more, _⊢ˢ_⦂_, _∣_⊢ᵉ_⦂_, rule-call, rule-return, rule-if, rule-weak}
+use Rattle.typing.specs.Typing.{Entry, has, Ctx, Before, before-int, before-bool, before-alias, before-owner, Entrywise, neither, first, second, joined, nowhere, both, _⊕_≔_, _▷_≔_, Empty, empty-end, empty-more, unowned-int, unowned-bool, unowned-alias, Unlent, Every, _⊢ᵛ_⦂_, no-value, one-more, _⊢ˢ_⦂_, _∣_⊢ᵉ_⦂_, rule-call, rule-return, rule-if, rule-weak}
 use Rattle.typing.specs.Marks.{owner, all-spent}
 use Rattle.typing.proofs.Tests.{and-left, and-right}
 use Rattle.typing.proofs.Given.{Given, Uses, uses-end, uses-more, given-bool}
-use Rattle.typing.proofs.Contexts.{nothing, nothing-empty, empty-left, empty-right, Spare, kept, spare, Covers, covers-end, covers-more, covers-refl, covers-append, added-covers, weaken}
+use Rattle.typing.proofs.Contexts.{nothing, nothing-empty, empty-right, Spare, kept, spare, Covers, covers-end, covers-more, covers-refl, covers-append, added-covers, weaken}
 use Rattle.typing.proofs.Lists.{clear-none, uses-sound, uses-complete}
 
 pub record Call-node (P : Program) (τs : List Ty) (H : Ctx) (f : Operation) (vs : List Operand) (j : ℕ) (e : Body) : Type 0 where

@@ -1,17 +1,16 @@
 -- Values: those that can be given from the marks are those that a derivation takes, and it leaves what the marks leave.
-use mathlib.Core.Path.{_≡_, refl, sym, ap, subst}
-use mathlib.Core.Bool.{Bool, not}
+use mathlib.Core.Path.{_≡_, refl, ap, subst}
 use mathlib.Core.List.{List, [], _∷_}
 use mathlib.Core.Logic.{_⊎_, inl, inr}
-use Prim.Native.Nat.{ℕ, zero, suc}
-use lib.Dec.{T, T-not, not-T}
+use Prim.Native.Nat.{ℕ, suc}
+use lib.Dec.{T, not-T}
 use Rattle.reader.specs.declared.values.Value.{Value}
 use Rattle.reader.specs.declared.values.Operand.{Operand}
 use Rattle.typing.specs.Signatures.{Ty, int, bool, packet, alias}
-use Rattle.typing.specs.Typing.{integer, truth, variable, Entry, absent, has, Ctx, Beside, beside-int, beside-bool, beside-alias, Before, before-int, before-bool, before-alias, before-owner, Entrywise, neither, first, second, joined, Everywhere, nowhere, both, _⊕_≔_, _▷_≔_, Empty, empty-end, empty-more, Only, only-here, only-there, Unowned, unowned-int, unowned-bool, unowned-alias, _⊢ᵛ_⦂_, rule-var, rule-int, rule-bool, _⊢ˢ_⦂_, no-value, one-more}
+use Rattle.typing.specs.Typing.{variable, Entry, absent, has, Ctx, Beside, beside-int, beside-bool, beside-alias, Before, before-int, before-bool, before-alias, before-owner, Entrywise, neither, first, second, joined, nowhere, both, _⊕_≔_, _▷_≔_, Empty, empty-end, empty-more, Only, only-here, only-there, unowned-int, unowned-bool, unowned-alias, _⊢ᵛ_⦂_, rule-var, rule-int, rule-bool, _⊢ˢ_⦂_, no-value, one-more}
 use Rattle.typing.specs.Marks.{member, note, once}
 use Rattle.typing.proofs.Tests.{member-last, member-more, member-split}
-use Rattle.typing.proofs.Given.{At, at-here, at-there, Use, use-plain, use-lent, use-owner, UseAt, use-here, use-there, Given, given-integer, given-truth, given-variable, Uses, uses-end, uses-more}
+use Rattle.typing.proofs.Given.{At, at-here, at-there, Use, use-plain, use-lent, use-owner, UseAt, use-here, use-there, Given, given-integer, given-truth, given-variable, once-clear, Uses, uses-end, uses-more}
 use Rattle.typing.proofs.Contexts.{nothing, nothing-empty, absent-left, empty-left, regroup, Spare, kept, spare, Covers, covers-more, empty-covers}
 
 -- no variable that was named is an owner in S
@@ -20,9 +19,6 @@ Clear named S = (y : ℕ) → T (member y named) → ¬ At y (has packet) S
 
 pub clear-none : {S : Ctx} → Clear [] S
 clear-none y m = absurd m
-
-once-clear : {ρ : Ty} (x : ℕ) (named : List ℕ) → ρ ≡ packet → T (once ρ (variable x) named) → T (member x named) → ⊥
-once-clear x named e t = T-not (member x named) (subst (λ r. T (once r (variable x) named)) e t)
 
 clear-once : (ρ : Ty) (x : ℕ) (named : List ℕ) → (ρ ≡ packet → ¬ T (member x named)) → T (once ρ (variable x) named)
 clear-once int x named h = tt
