@@ -2,3 +2,10 @@ pub mod Results
 pub mod Lists
 pub mod Following
 pub mod Rows
+pub mod Spans
+pub mod ReadsWritten
+pub mod ReadsProgram
+pub mod Names
+pub mod WritesRead
+pub mod WritesProgram
+pub mod Law

@@ -5,3 +5,6 @@ pub mod Syntax
 pub mod Fields
 pub mod Nodes
 pub mod Programs
+pub mod Encoding
+pub mod Spans
+pub mod Readers

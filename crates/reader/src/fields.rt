@@ -13,7 +13,7 @@ use crate::windows::Window;
 
 impl Window<'_> {
     /// The fault of a question at a place of this window.
-    pub fn fault(&self, question: Question, place: usize) -> Fault
+    pub(crate) fn fault(&self, question: Question, place: usize) -> Fault
         ensures { λ r. ⌜ r ≡ fault question (now (self .entry) .function) place ⌝ }
     {
         Fault::new(question, self.function, place)
@@ -138,7 +138,7 @@ impl Window<'_> {
     }
 
     /// A count and that many values: where they stand.
-    pub fn list(&self, place: usize) -> Result<(Values, usize), Fault>
+    pub(crate) fn list(&self, place: usize) -> Result<(Values, usize), Fault>
         ensures reads { λ r. ⌜ r ≡ listed place (In (now (self .entry)) listAt place) ⌝ }
         ensures onward { λ r. ⌜ Onward place (now (self .entry) .end) r ⌝ }
     {

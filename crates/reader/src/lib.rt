@@ -8,6 +8,7 @@ pub mod nodes;
 pub mod operations;
 pub mod programs;
 pub mod questions;
+pub mod readers;
 pub mod types;
 pub mod values;
 pub mod windows;

@@ -5,6 +5,7 @@ ghost use mathlib.Core.Bool.{true};
 ghost use lib.ListN.{length};
 ghost use Rattle.reader.specs.Fields.{In, Onward, placed};
 ghost use Rattle.reader.specs.Programs.{typesAt, signatureAt, recordIn, recordAt, recordsAt, lengthOk, headerAt, reading, headed};
+ghost use Rattle.reader.specs.Encoding.{Reads-back, Written-reads};
 ghost use Rattle.std.specs.Vec.{made};
 use crate::faults::Fault;
 use crate::headers::Header;
@@ -129,4 +130,13 @@ fn whole(program: &[u8]) -> Result<Header, Fault>
         return Err(window.fault(Question::NothingLeft, next));
     }
     Ok(header)
+}
+
+/// Puts layer 1 to a program: its counts, or the first fault.
+pub fn read(program: &[u8]) -> Result<Header, Fault>
+    ensures answer { λ r. ⌜ r ≡ headed (reading (now (program .entry))) ⌝ }
+    ensures law { λ _. ⌜ Reads-back (now (program .entry)) ⌝ }
+    ensures written { λ _. ⌜ Written-reads ⌝ }
+{
+    whole(program)
 }

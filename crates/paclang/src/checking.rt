@@ -1,0 +1,27 @@
+//! `paclang check`: one program, each action on a line of its own.
+use crate::loading::load;
+use crate::wording::print_denial;
+use std::io;
+
+/// Checks the program in a file; whether it is accepted.
+pub fn check_file(rt: &LibcRuntime, path: &str) -> io::Result<bool> {
+    let Some(program) = load(rt, path)? else {
+        return Ok(false);
+    };
+    let length = program.len();
+    println!(rt, "read {path}: {length} bytes")?;
+    println!(rt, "layer 1: the bytes")?;
+    let header = match reader::programs::read(&program) {
+        Ok(header) => header,
+        Err(fault) => {
+            print_denial(rt, fault)?;
+            return Ok(false);
+        }
+    };
+    let threads = header.threads;
+    let queues = header.queues;
+    let functions = header.functions;
+    println!(rt, "found: threads {threads}, own queues {queues}, functions {functions}")?;
+    println!(rt, "accepted")?;
+    Ok(true)
+}
