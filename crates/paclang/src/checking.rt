@@ -21,7 +21,10 @@ pub fn check_file(rt: &LibcRuntime, path: &str) -> io::Result<bool> {
     let threads = header.threads;
     let queues = header.queues;
     let functions = header.functions;
-    println!(rt, "found: threads {threads}, own queues {queues}, functions {functions}")?;
+    println!(
+        rt,
+        "found: threads {threads}, own queues {queues}, functions {functions}"
+    )?;
     println!(rt, "accepted")?;
     Ok(true)
 }

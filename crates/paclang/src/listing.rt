@@ -39,10 +39,18 @@ fn list_program(rt: &LibcRuntime, program: &[u8], header: Header) -> io::Result<
     let threads = header.threads;
     let queues = header.queues;
     let functions = header.functions;
-    println!(rt, "{:>5}  program: threads {threads}, own queues {queues}, functions {functions}", 0)?;
+    println!(
+        rt,
+        "{:>5}  program: threads {threads}, own queues {queues}, functions {functions}",
+        0
+    )?;
     let mut place = 6;
     for function in 0..functions {
-        let window = Window { bytes: program, end: program.len(), function };
+        let window = Window {
+            bytes: program,
+            end: program.len(),
+            function,
+        };
         let Ok((length, start)) = window.half(place) else {
             return Ok(());
         };
@@ -52,7 +60,17 @@ fn list_program(rt: &LibcRuntime, program: &[u8], header: Header) -> io::Result<
             let thread = function.saturating_add(1);
             print!(rt, " (thread {thread})")?;
         }
-        list_record(rt, Reader { window: Window { bytes: program, end, function }, place: start })?;
+        list_record(
+            rt,
+            Reader {
+                window: Window {
+                    bytes: program,
+                    end,
+                    function,
+                },
+                place: start,
+            },
+        )?;
         place = end;
     }
     Ok(())
@@ -68,7 +86,14 @@ fn list_record(rt: &LibcRuntime, mut reader: Reader) -> io::Result<()> {
     print!(rt, " -> ")?;
     list_types(rt, &mut reader)?;
     println!(rt, "")?;
-    list_nodes(rt, reader, Level { ifs: 0, bound: parameters })
+    list_nodes(
+        rt,
+        reader,
+        Level {
+            ifs: 0,
+            bound: parameters,
+        },
+    )
 }
 
 /// Lists a count and that many types; how many there are.
@@ -113,15 +138,25 @@ fn list_nodes(rt: &LibcRuntime, mut reader: Reader, first: Level) -> io::Result<
                 print!(rt, "if ")?;
                 print_value(rt, value.value)?;
                 println!(rt, "")?;
-                level = Level { ifs: level.ifs.saturating_add(1), bound: level.bound };
+                level = Level {
+                    ifs: level.ifs.saturating_add(1),
+                    bound: level.bound,
+                };
                 open.push(level)?;
             }
-            Node::Call { operation, arguments, results } => {
+            Node::Call {
+                operation,
+                arguments,
+                results,
+            } => {
                 print_results(rt, level.bound, results)?;
                 print_operation(rt, operation)?;
                 print_values(rt, reader.window, arguments)?;
                 println!(rt, "")?;
-                level = Level { ifs: level.ifs, bound: level.bound.saturating_add(usize::from(results)) };
+                level = Level {
+                    ifs: level.ifs,
+                    bound: level.bound.saturating_add(usize::from(results)),
+                };
             }
         }
     }
@@ -151,7 +186,11 @@ fn print_results(rt: &LibcRuntime, bound: usize, results: u8) -> io::Result<()> 
         let comma = if i > 0 { ", " } else { "" };
         print!(rt, "{comma}v{variable}")?;
     }
-    if results > 0 { print!(rt, " := ") } else { Ok(()) }
+    if results > 0 {
+        print!(rt, " := ")
+    } else {
+        Ok(())
+    }
 }
 
 fn print_values(rt: &LibcRuntime, window: Window, values: Values) -> io::Result<()> {

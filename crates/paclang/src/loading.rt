@@ -28,9 +28,15 @@ fn print_misprint(rt: &LibcRuntime, path: &str, text: &[u8], misprint: Misprint)
     match misprint {
         Misprint::Unknown { place } => {
             let line = hex::text::lines_before(text, place).saturating_add(1);
-            eprintln!(rt, "paclang: {path}: line {line}: neither a hexadecimal digit nor white space")
+            eprintln!(
+                rt,
+                "paclang: {path}: line {line}: neither a hexadecimal digit nor white space"
+            )
         }
-        Misprint::Odd => eprintln!(rt, "paclang: {path}: the text ends after the first digit of a byte"),
+        Misprint::Odd => eprintln!(
+            rt,
+            "paclang: {path}: the text ends after the first digit of a byte"
+        ),
         Misprint::NoMemory => eprintln!(rt, "paclang: {path}: no memory for its bytes"),
     }
 }

@@ -1,10 +1,10 @@
 //! The command `paclang`: checks and lists encoded programs.
-mod wording;
-mod naming;
-mod loading;
 mod checking;
-mod verdicts;
 mod listing;
+mod loading;
+mod naming;
+mod verdicts;
+mod wording;
 
 use std::env;
 use std::error::AnyError;

@@ -15,10 +15,11 @@ use Rattle.reader.specs.declared.faults.Fault.{Fault}
 use Rattle.reader.specs.Syntax.{Body, Function, Program}
 use Rattle.reader.specs.Programs.{reading}
 use Rattle.reader.proofs.Results.{then-ok, go}
+use Rattle.reader.proofs.Law.{reads-back}
 use Rattle.typing.specs.Signatures.{Ty, int, bool, packet, alias}
 use Rattle.typing.specs.Typing.{Entry, has, Ctx, Unlent, unlent-int, unlent-bool, unlent-packet, Every, every-end, every-more, _∣_⊢ᵉ_⦂_, rule-call, rule-return, rule-if, rule-weak, Room, Deep, EachFunction, Accepted}
 use Rattle.typing.specs.Layers.{empty, unlent, no-alias, results-place, thread-ready, outside, inside, each, layers}
-use Rattle.typing.specs.Theorems.{Programs-decided, Bytes-decided}
+use Rattle.typing.specs.Theorems.{Programs-decided, Bytes-decided, Encodings-decided}
 use Rattle.typing.proofs.Answered.{asked-ok, ok-asked}
 use Rattle.typing.proofs.Tests.{and-left, and-right, and-both, or-case}
 use Rattle.typing.proofs.Bodies.{bodies-decided}
@@ -139,4 +140,10 @@ pub bytes-decided : Bytes-decided
 bytes-decided b = (
   (λ h. let (P, r, l) = then-ok (reading b) layers tt h in (P, r, programs-decided P .0 l)),
   λ a. go layers (a .1) (programs-decided (a .0) .1 (a .2)),
+)
+
+pub encodings-decided : Encodings-decided
+encodings-decided b small = (
+  (λ h. let (P, r, a) = bytes-decided b .0 h in (P, reads-back b small P .0 r, a)),
+  λ w. bytes-decided b .1 (w .0, reads-back b small (w .0) .1 (w .1), w .2),
 )

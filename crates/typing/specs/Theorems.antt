@@ -7,6 +7,7 @@ use lib.ListN.{length}
 use Rattle.std.specs.declared.result.Result.the-variants.{Ok}
 use Rattle.reader.specs.Syntax.{Body, Function, Program}
 use Rattle.reader.specs.Programs.{reading}
+use Rattle.reader.specs.Encoding.{Bytes, Writes}
 use Rattle.typing.specs.Typing.{Ctx, Every, Unlent, _∣_⊢ᵉ_⦂_, Room, Deep, Accepted}
 use Rattle.typing.specs.Marks.{body}
 use Rattle.typing.specs.Layers.{layers, verdict}
@@ -24,3 +25,7 @@ Programs-decided = (P : Program) → (layers P ≡ Ok tt) ↔ Accepted P
 -- bytes: no layer finds a fault exactly where they read as an accepted program
 abbrev pub Bytes-decided : Type 0
 Bytes-decided = (b : List ℕ) → (verdict b ≡ Ok tt) ↔ ((P : Program) × (reading b ≡ Ok P) × Accepted P)
+
+-- and exactly where they are the encoding of one
+abbrev pub Encodings-decided : Type 0
+Encodings-decided = (b : List ℕ) → Bytes b → (verdict b ≡ Ok tt) ↔ ((P : Program) × Writes P b × Accepted P)
