@@ -9,4 +9,3 @@ pub mod Names
 pub mod WritesRead
 pub mod WritesProgram
 pub mod Law
-pub mod Computed

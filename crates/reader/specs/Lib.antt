@@ -8,4 +8,3 @@ pub mod Programs
 pub mod Encoding
 pub mod Spans
 pub mod Readers
-pub mod Cases

@@ -12,4 +12,3 @@ pub mod readers;
 pub mod types;
 pub mod values;
 pub mod windows;
-pub mod cases;

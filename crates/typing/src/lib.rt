@@ -5,19 +5,15 @@ ghost use Rattle.typing.specs.Theorems.{Bodies-decided, Programs-decided, Byte
 pub mod entries;
 
 /// No question is answered no exactly where a program is accepted: for bodies, programs, bytes and encodings.
-pub fn typing_stands() -> u8
+pub fn typing_stands()
     ensures bodies { λ _. ⌜ Bodies-decided ⌝ }
     ensures programs { λ _. ⌜ Programs-decided ⌝ }
     ensures bytes { λ _. ⌜ Bytes-decided ⌝ }
     ensures encodings { λ _. ⌜ Encodings-decided ⌝ }
-{
-    0
-}
+{}
 
 /// The verdicts on small programs.
-pub fn cases_stand() -> u8
+pub fn cases_stand()
     ensures cases { λ _. ⌜ Cases ⌝ }
     ensures more { λ _. ⌜ More-cases ⌝ }
-{
-    0
-}
+{}
