@@ -1,0 +1,5 @@
+pub mod Answered
+pub mod Gathered
+pub mod Kept
+pub mod Maps
+pub mod Tables
