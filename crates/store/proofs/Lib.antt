@@ -1,4 +1,5 @@
 pub mod Answered
+pub mod Blocks
 pub mod Gathered
 pub mod Kept
 pub mod Maps

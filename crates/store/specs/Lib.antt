@@ -1,3 +1,4 @@
+pub mod Blocks
 pub mod Meaning
 pub mod Names
 pub mod Packets
