@@ -16,6 +16,7 @@ use crate::cells::cells_for;
 use crate::head::Head;
 use crate::head::HeadNamed;
 use store::Name;
+use store::clear;
 use store::find;
 
 // The caller's memory, links and table of heads; the first of the spare cells, and how many are spare.
@@ -27,13 +28,6 @@ pub struct Lent<'a> {
     pub(crate) heads: &'a mut [Head],
     pub(crate) free: usize,
     pub(crate) spare: usize,
-}
-
-// Lays zeros in each byte.
-fn clear(part: &mut [u8])
-    ensures { λ _. ⌜ now (part .exit) ≡ replicate (length (now (part .entry))) 0 ⌝ }
-{
-    part.fill(0);
 }
 
 impl<'a> Lent<'a> {

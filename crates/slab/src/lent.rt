@@ -8,6 +8,7 @@ ghost use Rattle.store.specs.Rows.{place as place-of, row-at, row-of, with-pack
 use crate::slot::Slot;
 use crate::slot::SlotNamed;
 use store::Name;
+use store::clear;
 use store::find;
 
 // The bytes of a slot.
@@ -18,13 +19,6 @@ pub(crate) const SLOT: usize = 256;
 pub struct Lent<'a> {
     pub(crate) memory: &'a mut [u8],
     pub(crate) slots: &'a mut [Slot],
-}
-
-// Lays zeros in each byte.
-fn clear(part: &mut [u8])
-    ensures { λ _. ⌜ now (part .exit) ≡ replicate (length (now (part .entry))) 0 ⌝ }
-{
-    part.fill(0);
 }
 
 impl<'a> Lent<'a> {

@@ -3,6 +3,7 @@ pub mod denial;
 pub mod name;
 pub mod named;
 pub mod store;
+pub mod zeros;
 
 pub use denial::Denial;
 pub use denial::Handed;
@@ -11,3 +12,4 @@ pub use name::Name;
 pub use named::Named;
 pub use named::find;
 pub use store::Store;
+pub use zeros::clear;

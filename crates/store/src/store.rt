@@ -51,15 +51,16 @@ pub trait Store {
     fn capacity(&self) -> usize
         ensures { λ r. ⌜ (made (now (self .entry)) → r ≡ meaning (now (self .entry)) .capacity) ⌝ };
 
-    // The units that a packet of that size takes: at least one, whatever the size.
+    // The units that a packet of that size takes, at least one.
     fn need(&self, size: usize) -> usize
         ensures value { λ r. ⌜ (made (now (self .entry)) → r ≡ meaning (now (self .entry)) .need size) ⌝ }
-        ensures least { λ _. ⌜ (made (now (self .entry)) → (k : ℕ) → 1 ≤ meaning (now (self .entry)) .need k) ⌝ };
+        ensures least { λ r. ⌜ (made (now (self .entry)) → 1 ≤ r) ⌝ };
 
-    // The sum of the needs of all packets alive, which stays within the capacity.
+    // The sum of the needs of all packets alive. It stays within the capacity, and each packet counts.
     fn used(&self) -> usize
         ensures value { λ r. ⌜ (made (now (self .entry)) → r ≡ units (meaning (now (self .entry)))) ⌝ }
-        ensures within { λ _. ⌜ (made (now (self .entry)) → units (meaning (now (self .entry))) ≤ meaning (now (self .entry)) .capacity) ⌝ };
+        ensures within { λ _. ⌜ (made (now (self .entry)) → units (meaning (now (self .entry))) ≤ meaning (now (self .entry)) .capacity) ⌝ }
+        ensures least { λ _. ⌜ (made (now (self .entry)) → (k : ℕ) → 1 ≤ meaning (now (self .entry)) .need k) ⌝ };
 
     fn size(&self, name: Name) -> Result<usize, Question>
         ensures { λ r. ⌜ (made (now (self .entry)) → r ≡ size-answer (meaning (now (self .entry))) name) ⌝ };

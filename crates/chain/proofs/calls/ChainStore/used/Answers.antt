@@ -11,4 +11,4 @@ returns c =
     let l = c .args .self .now .lent in
     let u = chain-units l (c .args .self .now .apart) in
     let w = cells-within l (sound-from l (c .args .self .now .whole) (c .args .self .now .even) (c .args .self .now .exact) (c .args .self .now .once)) in
-    record { value = λ _. c .taken .ensures ∙ sym u; within = λ _. omega arith }
+    record { value = λ _. c .taken .ensures ∙ sym u; within = λ _. omega arith; least = λ _ k. omega arith }

@@ -8,4 +8,4 @@ returns c =
     let l = c .args .self .now .lent in
     let u = slab-units l (c .args .self .now .apart) in
     let w = slots-within l in
-    record { value = λ _. c .taken .ensures ∙ sym u; within = λ _. omega arith }
+    record { value = λ _. c .taken .ensures ∙ sym u; within = λ _. omega arith; least = λ _ k. omega arith }
