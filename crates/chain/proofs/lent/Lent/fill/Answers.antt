@@ -1,0 +1,37 @@
+use Prim.Native.Nat.{ℕ, suc, _+_, _*_, _-_, _/_, _%_, _<_, _≤_}
+use mathlib.Core.Path.{_≡_, refl, sym, _∙_, ap}
+use native.Mathlib.Omega.{arith}
+use borrow.Author.Needs.{needs}
+use lib.ListN.{length, length-set, getD, set, take, drop, replicate, length-take, length-drop}
+use Rattle.chain.proofs.Changes.{spare-inside, free-head, at-fill}
+use Rattle.chain.proofs.lent.Lent.fill.Needs as need
+
+pub wipe-self-requires : need.wipe-self-requires
+wipe-self-requires c κs =
+    let v = c .cells-for-amount .ensures .value in
+    let r = c .pre .room in
+    spare-inside (c .args .self .now .heads .now) (c .args .self .now .links .now) (c .args .self .now .memory .now) (c .args .self .now .free) (c .args .self .now .spare) (c .cells-for-amount .result) (c .pre .sound) (omega arith)
+
+pub offset-self-head : need.offset-self-head
+offset-self-head c =
+    let w = free-head (c .args .self .now .heads .now) (c .args .self .now .links .now) (c .args .self .now .memory .now) (c .args .head) (c .pre .free) .0 in
+    let e = ap length (c .wipe-self .ensures .heads) in
+    let l : c .args .head < length (c .wipe-self .last .self .heads .now) = omega arith in
+    search needs
+
+pub index-self-head : need.index-self-head
+index-self-head c =
+    let w = free-head (c .args .self .now .heads .now) (c .args .self .now .links .now) (c .args .self .now .memory .now) (c .args .head) (c .pre .free) .0 in
+    let e = ap length (c .wipe-self .ensures .heads) in
+    omega arith
+
+pub returns : need.returns
+returns c =
+    let f = at-fill (c .args .self .now .heads .now) (c .args .self .now .links .now) (c .args .self .now .memory .now) (c .args .self .now .free) (c .args .self .now .spare) (c .args .head) (c .pre .sound) (c .pre .free) (c .cells-for-amount .result) (c .args .size) (c .cells-for-amount .ensures .value) (c .pre .room) (c .args .name) (c .args .name .maker)
+    (c .wipe-self .last .self .heads .now) (c .wipe-self .last .self .links .now) (c .wipe-self .last .self .memory .now) (c .wipe-self .result) (c .wipe-self .last .self .spare)
+    (c .wipe-self .ensures .heads) (c .wipe-self .ensures .links) (c .wipe-self .ensures .behind) (c .wipe-self .ensures .spare) (c .wipe-self .ensures .long) (c .wipe-self .ensures .zeros) (c .wipe-self .ensures .others) in
+    record {
+      rows = f .1;
+      sound = f .0;
+      heads = length-set (c .wipe-self .last .self .heads .now) (c .args .head) _ ∙ ap length (c .wipe-self .ensures .heads);
+    }

@@ -1,0 +1,3 @@
+mod Carrying
+mod Halves
+mod Merging

@@ -1,0 +1,14 @@
+use mathlib.Core.Path.{_≡_, sym, _∙_}
+use Rattle.store.specs.Meaning.{found}
+use Rattle.split.proofs.Halves.{in-none, in-far, size-denied, size-error}
+use Rattle.split.proofs.split.Split.place.Needs as need
+
+pub returns-then-not-self : need.returns-then-not-self
+returns-then-not-self g c = λ _ _. in-none (g .N·Store .meaning (c .args .self .now .near)) (g .F·Store .meaning (c .args .self .now .far)) (c .args .name) (c .args .self .now .clean) (c .if-not-self .taken)
+
+pub returns-in-Err : need.returns-in-Err
+returns-in-Err g c = λ s t.
+    let a = g .N·Store .meaning (c .args .self .now .near) in
+    let b = g .F·Store .meaning (c .args .self .now .far) in
+    let o = size-denied (found a (c .args .name)) (c .size .result) (c .size .ensures s) (c .in-rest .not-Ok) in
+    sym (in-far a b (c .args .name) (c .args .self .now .clean) (c .if-not-self .left) o) ∙ size-error (found b (c .args .name)) (c .in-Err .ensures tt t)
