@@ -1,0 +1,4 @@
+pub mod Puts
+pub mod Counts
+pub mod Contexts
+pub mod Typed

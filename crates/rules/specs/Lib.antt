@@ -1,3 +1,5 @@
 pub mod Numbers
 pub mod State
 pub mod Rules
+pub mod Calls
+pub mod Promises
