@@ -5,3 +5,4 @@ pub mod Typed
 pub mod Frames
 pub mod Lends
 pub mod Conserve
+pub mod Holders
