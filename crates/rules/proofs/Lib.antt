@@ -6,3 +6,5 @@ pub mod Frames
 pub mod Lends
 pub mod Conserve
 pub mod Holders
+pub mod Invariant
+pub mod Owned
