@@ -8,3 +8,5 @@ pub mod Conserve
 pub mod Holders
 pub mod Invariant
 pub mod Owned
+pub mod Same
+pub mod Progress
