@@ -10,3 +10,4 @@ pub mod Invariant
 pub mod Owned
 pub mod Same
 pub mod Progress
+pub mod Swap
