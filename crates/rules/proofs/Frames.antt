@@ -25,14 +25,14 @@ use Rattle.typing.proofs.Inversion.{by-node}
 use Rattle.typing.proofs.Whole.{typed-unlent}
 use Rattle.rules.specs.State.{Held, Frame, frame, Thread, ended, running, State, Effect}
 use Rattle.rules.specs.Rules.{Give, Gives, Operates, Rule}
+use Rattle.rules.proofs.Limits.{Small}
 use Rattle.rules.proofs.Contexts.{Leave, Leaves, leaves-length, owner?, owners, spent-owners, uses-leave, tested-leave}
 use Rattle.rules.proofs.Typed.{type, types, same-some, map-append, gives-types, gives-leave, operates-types}
 
--- What a machine relies on in a program: that it is accepted, and two limits of its bytes.
+-- What a machine relies on in a program: that it is accepted, and the limits of what was read.
 pub record Runnable (P : Program) : Type 0 where
   pub accepted : Accepted P
-  pub shallow : EachFunction P (λ i F. F .depth ≤ 7)
-  pub enough : P .threads ≤ length (P .functions)
+  pub small : Small P
 
 -- A function from a node on, with what its variables can be used as.
 pub record Sits (P : Program) (F : Function) (Γ : Ctx) (e : Body) : Type 0 where

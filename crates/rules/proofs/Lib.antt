@@ -1,3 +1,4 @@
+pub mod Limits
 pub mod Puts
 pub mod Counts
 pub mod Contexts
