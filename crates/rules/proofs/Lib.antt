@@ -12,3 +12,4 @@ pub mod Owned
 pub mod Same
 pub mod Progress
 pub mod Swap
+pub mod Calls
