@@ -119,11 +119,11 @@ arrive-kept s bs v lt = record {
   placed = v .placed;
   lent = v .lent;
   conserved = λ n.
-    let a = total-set (occurs n) (s .queues) 0 [] (queue s 0 ++ (new ∷ [])) (let x = v .lines in omega arith) in let b = total-append (is n) (queue s 0) (new ∷ []) in
-    let c = alive-put n new (Some (packet 0 bs)) (packets s) in let d = ap (weight n new) (not-made v 0) in let e = v .conserved n in omega arith;
+      let a = total-set (occurs n) (s .queues) 0 [] (queue s 0 ++ (new ∷ [])) (let x = v .lines in omega arith) in let b = total-append (is n) (queue s 0) (new ∷ []) in
+      let c = alive-put n new (Some (packet 0 bs)) (packets s) in let d = ap (weight n new) (not-made v 0) in let e = v .conserved n in omega arith;
   holds = λ i n h. subst (Holds (suc i)) (sym (lookup-other n new _ (packets s) (λ e.
-    let a = total-getD (held n) (s .threads) i ended refl in let b = v .conserved n in
-    let c = ap present (not-made v 0) in let d = ap (λ (m : Name). alive m (packets s)) e in omega arith))) (v .holds i n h);
+      let a = total-getD (held n) (s .threads) i ended refl in let b = v .conserved n in
+      let c = ap present (not-made v 0) in let d = ap (λ (m : Name). alive m (packets s)) e in omega arith))) (v .holds i n h);
   fresh = made-fresh (s .counts) 0 _ (packets s) maker (v .fresh);
   limited = made-limited (s .counts) 0 (s .limit) maker lt (v .limited);
 }
@@ -143,8 +143,8 @@ collect-kept s n ns p v e l = record {
   placed = v .placed;
   lent = v .lent;
   conserved = λ m.
-    let a = total-set (occurs m) (s .queues) 1 [] (edited pop (queue s 1)) (let x = v .lines in omega arith) in let b = ap (occurs m) e in let g = ap (λ (x : List Name). occurs m (edited pop x)) e in
-    let c = alive-put m n None (packets s) in let d = ap (weight m n) l in let f = v .conserved m in omega arith;
+      let a = total-set (occurs m) (s .queues) 1 [] (edited pop (queue s 1)) (let x = v .lines in omega arith) in let b = ap (occurs m) e in let g = ap (λ (x : List Name). occurs m (edited pop x)) e in
+      let c = alive-put m n None (packets s) in let d = ap (weight m n) l in let f = v .conserved m in omega arith;
   holds = λ i m h. put-holds (suc i) m n None (packets s) tt (λ ne. v .holds i m h);
   fresh = λ m c h. v .fresh m c (let a = alive-put (name m c) n None (packets s) in omega arith);
   limited = v .limited;

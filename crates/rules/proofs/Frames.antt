@@ -208,7 +208,7 @@ placed-kept {s} run (at-node {F = F} q c aw) (Rule.calls {g = g} {G = G} {next =
     let left = gives-leave refl h (d .leaves) in
     let deep : G .depth < F .depth = d .deep (G .depth) (function-depth (s .program) g fg) .1 (not-tail vs nt) in
     let room : length ws + length (G .results) ≤ 16 =
-          (let a = d .room in let b = d .count in let l = leaves-length (d .leaves) in let m = ap length left in let n = length-map {B = Entry} ws type in omega arith) in
+    (let a = d .room in let b = d .count in let l = leaves-length (d .leaves) in let m = ap length left in let n = length-map {B = Entry} ws type in omega arith) in
     at-node fg (subst (λ (Γ : Ctx). Sits (s .program) G Γ (G .body)) (sym (gives-types h)) (body-sits (run .accepted) g G fg))
     (below q deep room (subst (λ (Γ : Ctx). Sits (s .program) F (Γ ++ map has (G .results)) next) (sym left) (d .rest)) aw)
 placed-kept {s} run (at-node {F = F} {fs = fs} q c aw) (Rule.tail-calls {g = g} {G = G} {vs = vs} fg tl h) =

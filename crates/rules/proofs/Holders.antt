@@ -172,8 +172,8 @@ pub rule-touches : {s : State} {t : ℕ} {r r′ : Thread} {e : Effect} → Plac
     → (lookup n (stored (packets s) (e .puts)) ≡ lookup n (packets s)) ⊎ ((0 < held n r + queued n (s .queues)) ⊎ (alive n (packets s) ≡ 0))
 rule-touches {s} (at-node q c aw) l (Rule.operates {xs = xs} {fs = fs} sg h op) n = ⊎-elim (λ p. inl p)
     (λ p. inr (⊎-elim
-      (λ r. inl (⊎-elim (λ b. let a = given-held n (in-frames n fs) (l .0 n) (called c sg .leaves) h b in omega arith) (λ b. omega arith) (pos-split (owned n xs + borrowed n xs) (queued n (s .queues)) r)))
-      (λ r. inr r) p))
+    (λ r. inl (⊎-elim (λ b. let a = given-held n (in-frames n fs) (l .0 n) (called c sg .leaves) h b in omega arith) (λ b. omega arith) (pos-split (owned n xs + borrowed n xs) (queued n (s .queues)) r)))
+    (λ r. inr r) p))
     (operates-touches op n)
 rule-touches w l (Rule.calls fg nt h lt) n = inl refl
 rule-touches w l (Rule.tail-calls fg tl h) n = inl refl

@@ -75,9 +75,9 @@ rule-kept {s} j {r′} {e} v r = record {
   lent = set-each (λ i x. Lent (frames x)) (s .threads) j r′ ended there (lent-kept (v .placed j) (v .lent j) r) (λ i ne. v .lent i);
   conserved = λ n. let a = rule-counted n (v .lines) (v .placed j) r in let b = total-set (held n) (s .threads) j ended r′ there in let c = v .conserved n in omega arith;
   holds =
-    set-each (λ i x. (n : Name) → 0 < held n x → Holds (suc i) (lookup n (stored (packets s) (e .puts)))) (s .threads) j r′ ended there
-    (λ n b. rule-holds (v .placed j) (v .lent j) r (v .holds j) n (rule-counted n (v .lines) (v .placed j) r) b)
-    (λ i ne n b. others i ne n b (rule-touches (v .placed j) (v .lent j) r n));
+      set-each (λ i x. (n : Name) → 0 < held n x → Holds (suc i) (lookup n (stored (packets s) (e .puts)))) (s .threads) j r′ ended there
+      (λ n b. rule-holds (v .placed j) (v .lent j) r (v .holds j) n (rule-counted n (v .lines) (v .placed j) r) b)
+      (λ i ne n b. others i ne n b (rule-touches (v .placed j) (v .lent j) r n));
   fresh = rule-fresh maker (v .fresh) r;
   limited = rule-limited maker (v .limited) r;
 }

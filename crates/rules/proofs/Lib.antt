@@ -13,3 +13,4 @@ pub mod Same
 pub mod Progress
 pub mod Swap
 pub mod Calls
+pub mod Cases

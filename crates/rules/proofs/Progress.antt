@@ -215,8 +215,12 @@ module _ (s : State) (sound : Sound s) (t f p k : ℕ) (as′ : List Operand) (n
     where
       go : Dec (Tail (length vs) k next) → Calls (o.Function g)
       go (yes y) = inl (_, _, tail-calls fg y h)
-      go (no n) = inl (_, _, calls fg n h (let a = awaits-length (sound .runnable .small .depths) aw (sound .runnable .small .depths f F q) in
-          let e = d .deep (G .depth) (function-depth (s .program) g fg) .1 (λ y. n (subst (λ m. Tail m k next) (length-map {B = Entry} vs type) y)) in omega arith))
+      go (no n) = inl (
+        _,
+        _,
+        calls fg n h (let a = awaits-length (sound .runnable .small .depths) aw (sound .runnable .small .depths f F q) in
+            let e = d .deep (G .depth) (function-depth (s .program) g fg) .1 (λ y. n (subst (λ m. Tail m k next) (length-map {B = Entry} vs type) y)) in omega arith),
+      )
 
 next-exists : (s : State) → Sound s → (t : ℕ) {r : Thread} → ((n : Name) → 0 < held n r → (p : Packet) × (lookup n (packets s) ≡ Some p)) → Placed (s .program) r → Lent (frames r) → r ≢ ended → Next s t r
 next-exists s sound t al over l ne = absurd (ne refl)

@@ -160,7 +160,7 @@ module _ (s s′ : State) (t : ℕ) (ep : s .program ≡ s′ .program) (el : s 
   rule-agree lk qu (at-node q c aw) l (Rule.operates {f} {op = op} {next = next} {fs = fs} sg h w) (Rule.operates {ρs = ρs′} {σs = σs′} {rs = rs′} {e = e′} sg′ h′ w′) =
       let (xs, ws) = arguments-same (s .program) op sg (subst (λ (P : Program). signature P op ≡ some (ρs′ ⇒ σs′)) (sym ep) sg′) h h′ in
       let (e, rs) = operates-agree el em (λ n b. lk n (has (given-held n (in-frames n fs) (l .0 n) (called c sg .leaves) h b))) (λ q a. qu q (acts-uses a)) (λ q n a b. lk n (in-queue q (acts-uses a) b)) w
-              (subst (λ (zs : List Held). Operates s′ t op zs e′ rs′) (sym xs) w′) in
+      (subst (λ (zs : List Held). Operates s′ t op zs e′ rs′) (sym xs) w′) in
       (ap₂ (λ (x y : List Held). running (frame f next (x ++ y)) fs) ws rs, e)
   rule-agree lk qu w l (Rule.operates sg h x) (Rule.calls fg nt h′ lt) = elim x [ ]
   rule-agree lk qu w l (Rule.operates sg h x) (Rule.tail-calls fg tl h′) = elim x [ ]
@@ -284,7 +284,7 @@ swapped s v i j ne dis a b a′ b′ ea eb ea′ eb′ ra rb′ rb ra′ =
     let differ : suc i ≢ suc j = (λ e. ne (let z : i ≡ j = cc in z)) in
     ap₂ (λ (r : Thread) (e : Effect). apply (suc j) r e (apply (suc i) a ea s)) (sym (x .0)) (sym (x .1))
     ∙ apply-comm s i j a b ea eb ne (queues-differ (getD (s .threads) i ended) (getD (s .threads) j ended) (ea .edit) (eb .edit) dis (wa .0) (wb .0))
-      (counts-differ (suc i) (suc j) (ea .count) (eb .count) differ (wa .1) (wb .1)) (stores-differ s v i j ne dis (ea .puts) (eb .puts) (wa .2) (wb .2))
+    (counts-differ (suc i) (suc j) (ea .count) (eb .count) differ (wa .1) (wb .1)) (stores-differ s v i j ne dis (ea .puts) (eb .puts) (wa .2) (wb .2))
     ∙ ap₂ (λ (r : Thread) (e : Effect). apply (suc i) r e (apply (suc j) b eb s)) (y .0) (y .1)
 
 pub swaps : (s : State) → Sound s → Swaps s

@@ -3,3 +3,4 @@ pub mod State
 pub mod Rules
 pub mod Calls
 pub mod Promises
+pub mod Cases

@@ -1,4 +1,18 @@
 //! The rules that a machine goes by: its states, the steps of its threads, its calls, and what they keep.
+ghost use Rattle.rules.specs.Cases.{Cases};
+ghost use Rattle.rules.specs.Promises.{Runs-keep, Calls-keep};
+
 pub mod held;
 pub mod outcomes;
 pub mod questions;
+
+/// Ownership, progress and swap stand after every call from the granted load on: over whole runs, and call by call.
+pub fn rules_stand()
+    ensures runs { λ _. ⌜ Runs-keep ⌝ }
+    ensures calls { λ _. ⌜ Calls-keep ⌝ }
+{}
+
+/// What the rules say of small cases.
+pub fn cases_stand()
+    ensures { λ _. ⌜ Cases ⌝ }
+{}

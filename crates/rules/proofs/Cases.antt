@@ -1,0 +1,50 @@
+-- The worked cases, rule by rule.
+use mathlib.Core.List.{List, [], _∷_}
+use mathlib.Core.Path.{refl}
+use Prim.Native.Nat.{ℕ}
+use lib.Dec.{leb→le, le→leb}
+use Rattle.reader.specs.Nodes.{bodyBy}
+use Rattle.store.specs.Names.{earlier, same}
+use Rattle.store.specs.Packets.{empty, lookup, insert, remove, used}
+use Rattle.rules.specs.State.{put}
+use Rattle.rules.specs.Rules.{calculate, an-integer, lend, spend, no-more, one-more, computes, makes, kills, updates-inside, dequeues, enqueues, on-empty, operates, ends, delayed, advances, waits, has-ended, moves}
+use Rattle.rules.specs.Calls.{loaded-already, no-thread, nothing-sent, too-small, denies, loads, arrives, steps, finds, collects}
+use Rattle.rules.specs.Cases.{says, nothing-more, Below-zero, Update-large, Sends, Receives, Cases}
+
+below-zero : Below-zero
+unfolding calculate
+below-zero s t = computes
+
+update-large : Update-large
+update-large s t n p h l = updates-inside h l
+
+sends : Sends
+unfolding bodyBy lookup insert remove used empty put earlier same
+sends =
+    says (loads (leb→le _ _ tt) refl refl refl)
+    (says (denies loaded-already refl)
+    (says (denies (no-thread (λ a b. le→leb _ _ b)) refl)
+    (says (steps (leb→le _ _ tt) (leb→le _ _ tt) (moves (advances (operates refl (one-more an-integer no-more) (makes (leb→le _ _ tt) refl (leb→le _ _ tt))))))
+    (says (steps (leb→le _ _ tt) (leb→le _ _ tt) (moves (advances (operates refl (one-more (lend refl) (one-more an-integer (one-more an-integer no-more))) (updates-inside refl (leb→le _ _ tt))))))
+    (says (steps (leb→le _ _ tt) (leb→le _ _ tt) (moves (advances (operates refl (one-more (lend refl) (one-more an-integer (one-more an-integer no-more))) (updates-inside refl (leb→le _ _ tt))))))
+    (says (steps (leb→le _ _ tt) (leb→le _ _ tt) (moves (advances (operates refl (one-more (spend refl) no-more) (enqueues (leb→le _ _ tt))))))
+    (says (steps (leb→le _ _ tt) (leb→le _ _ tt) (moves (advances (ends refl no-more))))
+    (says (steps (leb→le _ _ tt) (leb→le _ _ tt) (moves (has-ended refl)))
+    (says (denies (too-small refl refl (leb→le _ _ tt)) refl)
+    (says (collects refl refl (leb→le _ _ tt))
+    (says (denies (nothing-sent refl) refl) nothing-more)))))))))))
+
+receives : Receives
+unfolding bodyBy lookup insert remove used empty put earlier same
+receives =
+    says (loads (leb→le _ _ tt) refl refl refl)
+    (says (steps (leb→le _ _ tt) (leb→le _ _ tt) (moves (waits (delayed refl no-more (on-empty refl)))))
+    (says (arrives (leb→le _ _ tt) (leb→le _ _ tt) (leb→le _ _ tt) (leb→le _ _ tt))
+    (says (finds (_, advances (operates refl no-more (dequeues refl refl))))
+    (says (steps (leb→le _ _ tt) (leb→le _ _ tt) (moves (advances (operates refl no-more (dequeues refl refl)))))
+    (says (steps (leb→le _ _ tt) (leb→le _ _ tt) (moves (advances (operates refl (one-more (spend refl) no-more) (kills refl)))))
+    (says (steps (leb→le _ _ tt) (leb→le _ _ tt) (moves (advances (ends refl no-more))))
+    (says (steps (leb→le _ _ tt) (leb→le _ _ tt) (moves (has-ended refl))) nothing-more)))))))
+
+pub cases : Cases
+cases = record { below-zero = below-zero; update-large = update-large; sends = sends; receives = receives }
