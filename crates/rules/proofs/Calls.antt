@@ -151,7 +151,7 @@ collect-kept s n ns p v e l = record {
 }
 
 -- Ready.
-ended? : (r : Thread) → (r ≡ ended) ⊎ (r ≢ ended)
+pub ended? : (r : Thread) → (r ≡ ended) ⊎ (r ≢ ended)
 ended? ended = inl refl
 ended? (running f fs) = inr (λ e. let z : _≡_ {A = ℕ} 0 1 = cc in omega arith)
 
@@ -177,7 +177,7 @@ find s v (suc k) = ⊎-elim (λ w. inl w) (λ f. ⊎-elim (λ w. inl (suc k, w))
     both f n t (yes y) l = f t y
     both f n t (no y) l = subst (λ (u : ℕ). ¬ Would-advance s u) (let z : suc k ≡ t = omega arith in z) n
 
-ready-tells : (s : State) → Sound s → Ready-tells s
+pub ready-tells : (s : State) → Sound s → Ready-tells s
 ready-tells s v = record {
   answered = ⊎-elim (λ w. (_, finds (w .1))) (λ n. (_, finds-none (λ t. none t (decLe t (length (s .threads))) n))) (find s v (length (s .threads)));
   some-thread = λ t m d. some-thread d;

@@ -128,6 +128,9 @@ pub present-some : (o : Option Packet) → 0 < present o → (p : Packet) × (o 
 present-some None h = absurd (not-suc-le-zero h)
 present-some (Some p) h = (p, refl)
 
+pub some-same : {o : Option Packet} {p q : Packet} → o ≡ Some p → o ≡ Some q → p ≡ q
+some-same h k = cc
+
 -- what a packet of the name n counts for the name m
 abbrev pub weight : Name → Name → Option Packet → ℕ
 weight m n None = 0

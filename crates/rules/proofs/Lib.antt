@@ -14,3 +14,4 @@ pub mod Progress
 pub mod Swap
 pub mod Calls
 pub mod Cases
+pub mod Settled

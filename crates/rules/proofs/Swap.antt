@@ -22,7 +22,7 @@ use Rattle.rules.specs.State.{Held, integer, owner, Frame, frame, Thread, ende
 use Rattle.rules.specs.Rules.{Outcome, Advanced, Waits, Gives, Operates, Rule, Waits-for, Moves, Step}
 use Rattle.rules.specs.Promises.{is, occurs, queued, Uses, No-queue-shared, Settled, Swaps}
 use Rattle.rules.proofs.Puts.{lookup-other, put-comm}
-use Rattle.rules.proofs.Counts.{owned, borrowed, in-frames, held, alive, present, present-at-most, total-getD, total-two, is-same}
+use Rattle.rules.proofs.Counts.{owned, borrowed, in-frames, held, alive, present, present-at-most, total-getD, total-two, is-same, some-same}
 use Rattle.rules.proofs.Typed.{same-some}
 use Rattle.rules.proofs.Frames.{Placed, at-node, called}
 use Rattle.rules.proofs.Lends.{Lent}
@@ -113,9 +113,6 @@ module _ (s : State) (v : Sound s) (i j : ℕ) (ne : i ≢ j) (dis : Disjoint (g
   apart n (to-make e) (in-queue q u b) =
       let x = total-getD (occurs n) (s .queues) q [] refl in let y = v .conserved n in let z = unmade (suc i) in let w = ap (λ (m : Name). alive m (packets s)) e in omega arith
   apart n (to-make e) (to-make d) = let z : suc i ≡ suc j = ap (λ (x : Name). x .maker) (sym e ∙ d) in ne (let y : i ≡ j = cc in y)
-
-some-same : {o : Option Packet} {p q : Packet} → o ≡ Some p → o ≡ Some q → p ≡ q
-some-same h k = cc
 
 -- the same operation on the same values in two states that agree where it looks
 operates-agree : {s s′ : State} {t : ℕ} {op : Operation} {xs rs rs′ : List Held} {e e′ : Effect} → s .store .largest ≡ s′ .store .largest → made s t ≡ made s′ t

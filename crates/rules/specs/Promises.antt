@@ -139,3 +139,11 @@ Runs-keep = (m : Meaning) → Needy m → (xs : List Turn) → Runs (unloaded m)
 -- The same call by call, for the contract of each.
 abbrev pub Calls-keep : Type 0
 Calls-keep = (m m′ : Machine) (c : Call) (r : Reply) → Reached m → Does m c r m′ → Reached m′ × Promised m′
+
+-- Every call of such a machine is answered,
+abbrev pub Calls-answered : Type 0
+Calls-answered = (m : Machine) (c : Call) → Reached m → (r : Reply) × (m′ : Machine) × Does m c r m′
+
+-- and what it answers and leaves is settled; only which thread ready names is free.
+abbrev pub Calls-settled : Type 0
+Calls-settled = (m x y : Machine) (c : Call) (r q : Reply) → Reached m → c ≢ ready → Does m c r x → Does m c q y → (r ≡ q) × (x ≡ y)
