@@ -15,3 +15,5 @@ pub mod Swap
 pub mod Calls
 pub mod Cases
 pub mod Settled
+pub mod Effects
+pub mod Steps
