@@ -4,10 +4,10 @@ use mathlib.Core.List.{List, [], _∷_, _++_, map}
 use mathlib.Core.Logic.{_≢_, _⊎_, inl, inr, ⊎-elim}
 use mathlib.Core.Option.{some}
 use Prim.Native.Nat.{ℕ, zero, suc, _+_, _≤_, _<_}
-use native.Mathlib.Decide.{decLt, decLe}
+use native.Mathlib.Decide.{decLe}
 use native.Mathlib.Nat.{not-suc-le-zero, le-of-suc-le-suc}
 use native.Mathlib.Omega.{arith}
-use lib.ListN.{length, getD, getElem?, set, replicate, length-set, length-replicate}
+use lib.ListN.{length, getD, getElem?, replicate, length-set, length-replicate}
 use Rattle.std.specs.declared.option.Option.the-variants.{Some, None}
 use Rattle.std.specs.declared.result.Result.the-variants.{Ok}
 use Rattle.reader.specs.declared.types.Ty.{Ty}
@@ -21,14 +21,13 @@ use Rattle.typing.proofs.Whole.{bytes-decided}
 use Rattle.store.specs.declared.name.Name.{Name}
 use Rattle.store.specs.Packets.{Packet, lookup, packet}
 use Rattle.store.specs.Meaning.{Meaning, units}
-use Rattle.rules.specs.State.{Frame, frame, Thread, ended, running, frames, State, thread, queue, made, packets, name, next-name, edited, pop, affected, popping}
-use Rattle.rules.specs.Rules.{Cause, Outcome, Advanced, Rule, Waits-for, Moves, advances, Step, Would-advance}
-use Rattle.rules.specs.Calls.{Machine, unloaded, loaded, Call, ready, Reply, to-ready, starts, initial, arriving, Denies, Does, finds, finds-none, Turn, Runs, Needy, Reached, by-call, last}
-use Rattle.rules.specs.Promises.{total, is, occurs, queued, Ready-tells, Progress, Promise, Promised, Runs-keep, Calls-keep}
+use Rattle.rules.specs.State.{frame, Thread, ended, running, frames, State, thread, queue, made, packets, name, next-name, edited, pop, affected, popping}
+use Rattle.rules.specs.Rules.{Cause, Waits-for, Moves, advances, Would-advance}
+use Rattle.rules.specs.Calls.{Machine, unloaded, loaded, Call, ready, Reply, to-ready, starts, initial, arriving, Does, finds, finds-none, Turn, Runs, Needy, Reached, by-call}
+use Rattle.rules.specs.Promises.{is, occurs, queued, Ready-tells, Promised, Runs-keep, Calls-keep}
 use Rattle.rules.proofs.Limits.{reading-small}
 use Rattle.rules.proofs.Puts.{lookup-other, none-used}
 use Rattle.rules.proofs.Counts.{held, held-by, alive, present, total-append, total-set, total-getD, alive-put, weight}
-use Rattle.rules.proofs.Typed.{types}
 use Rattle.rules.proofs.Frames.{Runnable, Sits, body-sits, Awaits, bottom, Placed, over, at-node}
 use Rattle.rules.proofs.Lends.{Lent}
 use Rattle.rules.proofs.Holders.{Holds, put-holds, made-fresh, made-limited}

@@ -1,7 +1,5 @@
 -- The worked cases, rule by rule.
-use mathlib.Core.List.{List, [], _∷_}
 use mathlib.Core.Path.{refl}
-use Prim.Native.Nat.{ℕ}
 use lib.Dec.{leb→le, le→leb}
 use Rattle.reader.specs.Nodes.{bodyBy}
 use Rattle.typing.specs.Typing.{tail, consecutive-end}

@@ -1,12 +1,12 @@
 -- A name counts the same in threads and queues together as in the store, before a step and after it.
-use mathlib.Core.Path.{_≡_, refl, ap, _∙_}
+use mathlib.Core.Path.{_≡_, refl, ap}
 use mathlib.Core.Bool.{not}
 use mathlib.Core.List.{List, [], _∷_, _++_}
 use mathlib.Core.Option.{some}
-use Prim.Native.Nat.{ℕ, zero, suc, _+_, _≤_, _<_, _%_}
+use Prim.Native.Nat.{ℕ, zero, suc, _+_, _<_, _%_}
 use native.Mathlib.Omega.{arith}
 use lib.Dec.{eqb, ltb→lt}
-use lib.ListN.{length, getD, getElem?}
+use lib.ListN.{length, getD}
 use Rattle.std.specs.declared.option.Option.the-variants.{Some, None}
 use Rattle.reader.specs.declared.types.Ty.{Ty}
 use Rattle.reader.specs.declared.values.Operand.{Operand}
@@ -16,10 +16,10 @@ use Rattle.reader.specs.Syntax.{return, Function, Program}
 use Rattle.typing.specs.Signatures.{_⇒_, signature, queue as is-queue}
 use Rattle.typing.proofs.Tests.{and-left}
 use Rattle.store.specs.declared.name.Name.{Name}
-use Rattle.store.specs.Packets.{lookup, new-packet, with-holder, with-byte}
-use Rattle.rules.specs.State.{Held, Frame, frame, Thread, State, queue, made, packets, next-name, Effect, pop, edited, lined, stored}
+use Rattle.store.specs.Packets.{new-packet, with-holder, with-byte}
+use Rattle.rules.specs.State.{Held, Thread, State, queue, packets, next-name, Effect, pop, edited, lined, stored}
 use Rattle.rules.specs.Rules.{Gives, Operates, Rule, made-size}
-use Rattle.rules.specs.Promises.{total, is, occurs, queued}
+use Rattle.rules.specs.Promises.{is, occurs, queued}
 use Rattle.rules.proofs.Counts.{own, owned, held, alive, total-append, total-set, alive-put, weight}
 use Rattle.rules.proofs.Contexts.{owners}
 use Rattle.rules.proofs.Typed.{types, same-some, provided-row, gives-owned, gives-leave, owned-none}

@@ -3,7 +3,7 @@ use mathlib.Core.Path.{_≡_, refl, ap, subst, _∙_}
 use mathlib.Core.Bool.{Bool}
 use mathlib.Core.List.{List, [], _∷_}
 use mathlib.Core.Option.{some}
-use Prim.Native.Nat.{ℕ, zero, suc, _+_}
+use Prim.Native.Nat.{ℕ, suc, _+_}
 use native.Mathlib.Omega.{arith}
 use lib.Dec.{T}
 use lib.ListN.{length, getElem?, set, length-set}
@@ -16,7 +16,7 @@ use Rattle.typing.specs.declared.entries.Entry.{Entry}
 use Rattle.typing.specs.declared.entries.Entry.the-variants.{Absent as absent, Has as has}
 use Rattle.typing.specs.Typing.{Ctx, Unowned, unowned-int, unowned-bool, unowned-alias}
 use Rattle.typing.specs.Marks.{note, all-spent}
-use Rattle.typing.proofs.Given.{At, at-here, at-there, Use, use-plain, use-lent, use-owner, UseAt, use-here, use-there, Given, given-integer, given-truth, given-variable, Uses, uses-end, uses-more}
+use Rattle.typing.proofs.Given.{At, at-here, at-there, use-plain, use-lent, use-owner, UseAt, use-here, use-there, Given, given-integer, given-truth, given-variable, Uses, uses-end, uses-more}
 use Rattle.typing.proofs.Keeping.{uses-keep}
 use Rattle.typing.proofs.Tests.{member-last}
 

@@ -1,7 +1,6 @@
 -- How often names stand in variables, frames and threads, and the laws of such sums.
-use mathlib.Core.Path.{_≡_, refl, sym, ap, subst, _∙_}
+use mathlib.Core.Path.{_≡_, refl, sym, ap, subst}
 use mathlib.Core.Logic.{_≢_, _⊎_, inl, inr}
-use mathlib.Core.Bool.{true, false}
 use mathlib.Core.List.{List, [], _∷_, _++_}
 use mathlib.Core.Option.{some, Option·some-injective, Option·none-ne-some}
 use Prim.Native.Nat.{ℕ, zero, suc, _+_, _≤_, _<_}
@@ -11,11 +10,11 @@ use lib.ListN.{length, getD, getElem?, set}
 use Rattle.std.specs.declared.option.Option.{Option}
 use Rattle.std.specs.declared.option.Option.the-variants.{Some, None}
 use Rattle.store.specs.declared.name.Name.{Name}
-use Rattle.store.specs.Names.{same, same-refl, same-equal}
+use Rattle.store.specs.Names.{same-refl}
 use Rattle.store.specs.Packets.{Packet, Packets, lookup}
-use Rattle.store.proofs.Maps.{same-or, apart-same}
+use Rattle.store.proofs.Maps.{apart-same}
 use Rattle.rules.specs.State.{Held, nothing, integer, truth, owner, alias, Frame, frame, Thread, frames, put}
-use Rattle.rules.specs.Promises.{total, is, occurs, queued}
+use Rattle.rules.specs.Promises.{total, is}
 use Rattle.rules.proofs.Puts.{same?, lookup-same, lookup-other}
 
 -- as an owner, and as an alias

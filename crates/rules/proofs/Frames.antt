@@ -1,15 +1,14 @@
 -- A thread alone: its frames stay typed.
 use mathlib.Core.Path.{_≡_, refl, sym, ap, ap₂, subst, _∙_}
-use mathlib.Core.Bool.{Bool, true, false}
 use mathlib.Core.List.{List, [], _∷_, _++_, map, append-assoc}
 use mathlib.Core.Logic.{_⊎_, inl, inr}
-use mathlib.Core.Option.{Option, some}
-use Prim.Native.Nat.{ℕ, zero, suc, _+_, _≤_, _<_}
+use mathlib.Core.Option.{some}
+use Prim.Native.Nat.{ℕ, suc, _+_, _≤_, _<_}
 use native.Mathlib.Omega.{arith}
 use lib.ListN.{length, getElem?, set, length-append, length-map}
 use lib.Seq.{set-append-seam}
 use Rattle.reader.specs.declared.types.Ty.{Ty}
-use Rattle.reader.specs.declared.types.Ty.the-variants.{Int as int, Bool as bool, Packet as packet, Alias as alias}
+use Rattle.reader.specs.declared.types.Ty.the-variants.{Bool as bool}
 use Rattle.reader.specs.declared.values.Value.{Value}
 use Rattle.reader.specs.declared.values.Value.the-variants as v
 use Rattle.reader.specs.declared.values.Operand.{Operand}
@@ -19,14 +18,14 @@ use Rattle.reader.specs.Syntax.{Body, return, branch, call, Function, Program}
 use Rattle.typing.specs.declared.entries.Entry.{Entry}
 use Rattle.typing.specs.declared.entries.Entry.the-variants.{Absent as absent, Has as has}
 use Rattle.typing.specs.Signatures.{Signature, _⇒_, signature, callee-depth, of-function, depth-of}
-use Rattle.typing.specs.Typing.{Ctx, Every, every-end, every-more, Unlent, unlent-int, unlent-bool, unlent-packet, _∣_⊢ᵉ_⦂_, Room, Deep, Tail, tail, Consecutive, consecutive-end, consecutive-more, EachFunction, Accepted}
+use Rattle.typing.specs.Typing.{Ctx, Every, every-end, every-more, Unlent, _∣_⊢ᵉ_⦂_, Room, Deep, Tail, tail, Consecutive, consecutive-end, consecutive-more, EachFunction, Accepted}
 use Rattle.typing.proofs.Given.{uses-length}
 use Rattle.typing.proofs.Inversion.{by-node}
 use Rattle.typing.proofs.Whole.{typed-unlent}
 use Rattle.rules.specs.State.{Held, Frame, frame, Thread, ended, running, State, Effect}
-use Rattle.rules.specs.Rules.{Give, Gives, Operates, Rule}
+use Rattle.rules.specs.Rules.{Gives, Rule}
 use Rattle.rules.proofs.Limits.{Small}
-use Rattle.rules.proofs.Contexts.{Leave, Leaves, leaves-length, owner?, owners, spent-owners, uses-leave, tested-leave}
+use Rattle.rules.proofs.Contexts.{Leave, Leaves, leaves-length, owners, spent-owners, uses-leave, tested-leave}
 use Rattle.rules.proofs.Typed.{type, types, same-some, map-append, gives-types, gives-leave, operates-types}
 
 -- What a machine relies on in a program: that it is accepted, and the limits of what was read.

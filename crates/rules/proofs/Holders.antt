@@ -1,9 +1,8 @@
 -- Who holds a packet, which packets a step touches, and that names are new.
 use mathlib.Core.Path.{_≡_, refl, sym, ap, subst}
-use mathlib.Core.List.{List, [], _∷_, _++_}
+use mathlib.Core.List.{List, []}
 use mathlib.Core.Logic.{_≢_, _⊎_, inl, inr, ⊎-elim}
-use mathlib.Core.Option.{some}
-use Prim.Native.Nat.{ℕ, zero, suc, _+_, _≤_, _<_, _%_}
+use Prim.Native.Nat.{ℕ, suc, _+_, _≤_, _<_, _%_}
 use native.Mathlib.Decide.{ℕ-discrete}
 use native.Mathlib.Nat.{not-suc-le-zero}
 use native.Mathlib.Omega.{arith}
@@ -17,9 +16,9 @@ use Rattle.reader.specs.declared.operations.Operation.{Operation}
 use Rattle.typing.specs.Typing.{Ctx}
 use Rattle.store.specs.declared.name.Name.{Name}
 use Rattle.store.specs.Packets.{Packet, Packets, lookup, with-holder, with-byte}
-use Rattle.rules.specs.State.{Held, Frame, Thread, frames, State, made, packets, name, next-name, Effect, put, lined, counted, stored}
+use Rattle.rules.specs.State.{Held, Thread, frames, State, packets, name, next-name, Effect, put, lined, counted, stored}
 use Rattle.rules.specs.Rules.{Gives, Operates, Rule}
-use Rattle.rules.specs.Promises.{total, is, occurs, queued}
+use Rattle.rules.specs.Promises.{is, occurs, queued}
 use Rattle.rules.proofs.Puts.{same?, lookup-same, lookup-other}
 use Rattle.rules.proofs.Counts.{own, owned, borrowed, in-frames, held, alive, present, total-append, total-getD, pos-split, is-same, is-other, alive-put, weight}
 use Rattle.rules.proofs.Contexts.{Leaves}

@@ -2,16 +2,16 @@
 use mathlib.Core.Path.{_≡_, refl, sym, ap, subst, _∙_}
 use mathlib.Core.List.{List, [], _∷_}
 use mathlib.Core.Logic.{_≢_, _⊎_, inl, inr}
-use Prim.Native.Nat.{ℕ, zero, suc, _+_, _≤_, _<_}
+use Prim.Native.Nat.{ℕ, zero, suc, _+_, _<_}
 use native.Mathlib.Omega.{arith}
-use lib.ListN.{length, getD, set, length-set}
+use lib.ListN.{length, getD, length-set}
 use Rattle.std.specs.declared.option.Option.{Option}
 use Rattle.std.specs.declared.option.Option.the-variants.{Some, None}
 use Rattle.store.specs.declared.name.Name.{Name}
 use Rattle.store.specs.Packets.{Packet, lookup}
-use Rattle.rules.specs.State.{Frame, Thread, ended, running, frames, State, thread, made, packets, name, next-name, Edit, Effect, lined, counted, stored, apply}
+use Rattle.rules.specs.State.{Frame, Thread, ended, running, frames, State, made, packets, next-name, Edit, Effect, lined, counted, stored, apply}
 use Rattle.rules.specs.Rules.{Outcome, Rule, Moves, Step}
-use Rattle.rules.specs.Promises.{total, queued}
+use Rattle.rules.specs.Promises.{queued}
 use Rattle.rules.proofs.Counts.{held, held-by, alive, present, present-at-most, total-set, total-getD, total-two}
 use Rattle.rules.proofs.Frames.{Runnable, Placed, placed-kept}
 use Rattle.rules.proofs.Lends.{Lent, lent-kept}

@@ -1,25 +1,23 @@
 -- Aliases stay below their owners.
 use mathlib.Core.Path.{_≡_, refl, ap, subst, _∙_}
-use mathlib.Core.List.{List, [], _∷_, _++_, map}
+use mathlib.Core.List.{List, [], _∷_}
 use mathlib.Core.Logic.{_⊎_, inl, inr, ⊎-elim}
 use mathlib.Core.Option.{some, Option·some-injective, Option·none-ne-some}
-use Prim.Native.Nat.{ℕ, zero, suc, _+_, _≤_, _<_}
+use Prim.Native.Nat.{ℕ, zero, suc, _<_}
 use native.Mathlib.Nat.{not-suc-le-zero}
 use native.Mathlib.Omega.{arith}
-use lib.ListN.{length, getElem?, set}
+use lib.ListN.{getElem?, set}
 use Rattle.reader.specs.declared.types.Ty.{Ty}
 use Rattle.reader.specs.declared.types.Ty.the-variants.{Packet as packet}
 use Rattle.reader.specs.declared.values.Value.{Value}
 use Rattle.reader.specs.declared.values.Operand.{Operand}
 use Rattle.reader.specs.declared.operations.Operation.{Operation}
-use Rattle.typing.specs.declared.entries.Entry.{Entry}
 use Rattle.typing.specs.declared.entries.Entry.the-variants.{Absent as absent, Has as has}
 use Rattle.typing.specs.Typing.{Ctx, Every, every-more, Unlent}
 use Rattle.typing.proofs.Whole.{typed-unlent}
 use Rattle.store.specs.declared.name.Name.{Name}
 use Rattle.rules.specs.State.{Held, nothing, owner, alias, Frame, frame, Thread, frames, State, Effect}
 use Rattle.rules.specs.Rules.{Give, Gives, Operates, Rule}
-use Rattle.rules.specs.Promises.{total, is}
 use Rattle.rules.proofs.Counts.{own, borrow, owned, borrowed, in-frames, total-append, total-put, total-at, pos-split}
 use Rattle.rules.proofs.Contexts.{Leave, Leaves}
 use Rattle.rules.proofs.Typed.{type, types, same-some, give-leaves, gives-leave, owned-none}

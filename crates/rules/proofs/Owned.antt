@@ -5,14 +5,14 @@ use mathlib.Core.Logic.{_⊎_, inl, inr, ⊎-elim}
 use Prim.Native.Nat.{ℕ, zero, suc, _+_, _≤_, _<_}
 use native.Mathlib.Nat.{not-suc-le-zero}
 use native.Mathlib.Omega.{arith}
-use lib.ListN.{length, getD}
+use lib.ListN.{getD}
 use Rattle.std.specs.declared.option.Option.the-variants.{Some}
 use Rattle.reader.specs.Syntax.{Body}
 use Rattle.store.specs.declared.name.Name.{Name}
 use Rattle.store.specs.Packets.{Packet, lookup}
-use Rattle.rules.specs.State.{Held, nothing, integer, truth, owner, alias, Frame, frame, Thread, ended, frames, State, thread, packets}
+use Rattle.rules.specs.State.{Held, nothing, integer, truth, owner, alias, Frame, frame, ended, frames, State, thread, packets}
 use Rattle.rules.specs.Promises.{Among, here, there, total, is, occurs, queued, Refers, as-owner, as-alias, Thread-names, Queue-names, Held-once, Queued-once, Owned}
-use Rattle.rules.proofs.Counts.{own, borrow, owned, borrowed, in-frame, in-frames, held, held-by, alive, present, present-some, total-getD, pos-split, is-same, is-found}
+use Rattle.rules.proofs.Counts.{own, borrow, owned, borrowed, in-frame, in-frames, held, held-by, present, present-some, total-getD, pos-split, is-same, is-found}
 use Rattle.rules.proofs.Lends.{Lent}
 use Rattle.rules.proofs.Holders.{Holds}
 use Rattle.rules.proofs.Invariant.{Sound}

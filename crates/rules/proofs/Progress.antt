@@ -1,14 +1,14 @@
 -- No step of a thread that has not ended is stuck.
 use mathlib.Core.Path.{_≡_, refl, sym, ap, subst}
-use mathlib.Core.Bool.{Bool, true, false, not}
-use mathlib.Core.List.{List, [], _∷_, _++_}
+use mathlib.Core.Bool.{Bool, true, false}
+use mathlib.Core.List.{List, [], _∷_}
 use mathlib.Core.Logic.{_≢_, _⊎_, inl, inr, ⊎-elim}
 use mathlib.Core.Option.{Option, some, Option·some-injective, Option·none-ne-some}
 use Prim.Native.Nat.{ℕ, zero, suc, _+_, _≤_, _<_}
 use native.Mathlib.Decide.{decLt, decLe}
 use native.Mathlib.Omega.{arith}
-use lib.Dec.{T, eqb, not-T, ltb→lt}
-use lib.ListN.{length, getD, getElem?, length-map}
+use lib.Dec.{T}
+use lib.ListN.{length, getElem?, length-map}
 use Rattle.std.specs.declared.option.Option.the-variants.{Some}
 use Rattle.reader.specs.declared.types.Ty.{Ty}
 use Rattle.reader.specs.declared.types.Ty.the-variants.{Int as int, Bool as bool, Packet as packet, Alias as alias}
@@ -20,10 +20,10 @@ use Rattle.reader.specs.declared.operations.Operation.the-variants as o
 use Rattle.reader.specs.Syntax.{Body, return, branch, call, Function, Program}
 use Rattle.typing.specs.declared.entries.Entry.{Entry}
 use Rattle.typing.specs.declared.entries.Entry.the-variants.{Has as has}
-use Rattle.typing.specs.Signatures.{Signature, _⇒_, signature, provided, of-function, queue as is-queue}
+use Rattle.typing.specs.Signatures.{Signature, _⇒_, signature, of-function}
 use Rattle.typing.specs.Typing.{Ctx, Tail}
 use Rattle.typing.specs.Marks.{is-tail}
-use Rattle.typing.proofs.Tests.{and-left, tail-sound, tail-complete}
+use Rattle.typing.proofs.Tests.{tail-sound, tail-complete}
 use Rattle.store.specs.declared.name.Name.{Name}
 use Rattle.store.specs.Packets.{Packet, lookup}
 use Rattle.store.specs.Meaning.{units}
@@ -31,10 +31,10 @@ use Rattle.rules.specs.State.{Held, nothing, integer, truth, owner, Frame, fra
 use Rattle.rules.specs.State as held
 use Rattle.rules.specs.Rules.{Give, an-integer, a-truth, copy-integer, copy-truth, copy-alias, lend, spend, Gives, no-more, one-more, Operates, computes, compares, connects, makes, kills, reads-inside, reads-outside, updates-inside, updates-outside, dequeues, enqueues}
 use Rattle.rules.specs.Rules.{Cause, Outcome, Advanced, Waits, Stuck, made-size, Delays, on-empty, on-full, on-names, on-room, Rule, operates, calls, tail-calls, returns, ends, if-true, if-false, Waits-for, delayed, Moves, advances, waits, Step, moves, sticks}
-use Rattle.rules.specs.Promises.{is, occurs, queued, Goes-on}
-use Rattle.rules.proofs.Counts.{owned, borrowed, in-frames, held, alive, present-some, total-getD, is-same}
+use Rattle.rules.specs.Promises.{occurs, Goes-on}
+use Rattle.rules.proofs.Counts.{owned, borrowed, in-frames, held, present-some, total-getD, is-same}
 use Rattle.rules.proofs.Contexts.{Leave, Leaves}
-use Rattle.rules.proofs.Typed.{type, types, same-some, give-leaves, provided-row}
+use Rattle.rules.proofs.Typed.{type, types, give-leaves, provided-row}
 use Rattle.rules.proofs.Frames.{Placed, over, at-node, Awaits, awaits-length, Called, sits-return, sits-branch, sits-call, function-depth}
 use Rattle.rules.proofs.Lends.{Lent}
 use Rattle.rules.proofs.Holders.{given-held}

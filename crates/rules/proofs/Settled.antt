@@ -1,29 +1,28 @@
 -- Every call is answered, and but for ready in one way.
-use mathlib.Core.Path.{_≡_, refl, sym, ap, ap₂, subst, _∙_}
+use mathlib.Core.Path.{_≡_, refl, sym, ap, subst, _∙_}
 use mathlib.Core.List.{List, [], _∷_}
-use mathlib.Core.Logic.{_≢_, _⊎_, inl, inr, ⊎-elim}
-use Prim.Native.Nat.{ℕ, zero, suc, _+_, _≤_, _<_}
+use mathlib.Core.Logic.{_≢_, ⊎-elim}
+use Prim.Native.Nat.{ℕ, _+_, _≤_, _<_}
 use native.Mathlib.Decide.{decLt, decLe}
 use native.Mathlib.Omega.{arith}
-use lib.ListN.{length, getD}
+use lib.ListN.{length}
 use Rattle.std.specs.declared.option.Option.the-variants.{Some, None}
 use Rattle.std.specs.declared.result.Result.{Result}
 use Rattle.std.specs.declared.result.Result.the-variants.{Ok, Err}
 use Rattle.reader.specs.declared.faults.Fault.{Fault}
 use Rattle.reader.specs.Syntax.{Program}
-use Rattle.reader.specs.Programs.{reading}
 use Rattle.reader.proofs.Results.{ok-same}
 use Rattle.typing.specs.Layers.{verdict}
 use Rattle.typing.proofs.Whole.{bytes-decided}
 use Rattle.store.specs.declared.name.Name.{Name}
 use Rattle.store.specs.Packets.{Packet, lookup}
 use Rattle.store.specs.Meaning.{Meaning, units}
-use Rattle.rules.specs.State.{Thread, ended, State, thread, queue, made, packets, affected, popping}
+use Rattle.rules.specs.State.{State, thread, queue, made, packets, affected, popping}
 use Rattle.rules.specs.Rules.{Outcome, Room-for, Step, moves, has-ended}
-use Rattle.rules.specs.Calls.{Question, Machine, unloaded, loaded, Call, load, arrive, step, ready, collect, Reply, to-load, to-collect, initial, copied, denied, Denies, Does, Needy, Reached}
+use Rattle.rules.specs.Calls.{Question, Machine, unloaded, loaded, Call, load, arrive, step, ready, collect, Reply, to-collect, initial, copied, denied, Denies, Does}
 use Rattle.rules.specs.Calls.{arrive-first, step-first, ready-first, collect-first, loaded-already, no-names, in-use, no-thread, too-long, all-waiting, all-named, no-room, nothing-sent, too-small, denies, faults, loads, arrives, steps, finds, finds-none, collects}
-use Rattle.rules.specs.Promises.{is, occurs, queued, Calls-answered, Calls-settled}
-use Rattle.rules.proofs.Counts.{alive, present-some, total-getD, is-same, some-same}
+use Rattle.rules.specs.Promises.{occurs, Calls-answered, Calls-settled}
+use Rattle.rules.proofs.Counts.{present-some, total-getD, is-same, some-same}
 use Rattle.rules.proofs.Invariant.{Sound}
 use Rattle.rules.proofs.Progress.{goes-on-stands}
 use Rattle.rules.proofs.Swap.{settled}

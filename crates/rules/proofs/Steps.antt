@@ -1,12 +1,12 @@
 -- What the code of a machine shows of a step, from the thread as it finds it; and what it may rely on.
-use mathlib.Core.Path.{_≡_, refl, sym, ap, subst, _∙_}
+use mathlib.Core.Path.{_≡_, refl, sym, subst, _∙_}
 use mathlib.Core.Bool.{Bool, true, false}
 use mathlib.Core.List.{List, [], _∷_, _++_}
 use mathlib.Core.Logic.{_≢_, _⊎_, inl, inr, ⊎-elim}
 use mathlib.Core.Option.{some}
-use Prim.Native.Nat.{ℕ, zero, suc, _+_, _≤_, _<_}
+use Prim.Native.Nat.{ℕ, _≤_}
 use native.Mathlib.Omega.{arith}
-use lib.ListN.{length, getD, getElem?}
+use lib.ListN.{length, getElem?}
 use Rattle.reader.specs.declared.types.Ty.{Ty}
 use Rattle.reader.specs.declared.types.Ty.the-variants.{Bool as bool}
 use Rattle.reader.specs.declared.values.Operand.{Operand}
@@ -17,8 +17,7 @@ use Rattle.typing.specs.Signatures.{_⇒_, signature}
 use Rattle.typing.specs.Typing.{Tail}
 use Rattle.rules.specs.State.{Held, truth, Frame, frame, Thread, ended, running, State, thread, Effect, apply}
 use Rattle.rules.specs.Rules.{Cause, Outcome, Advanced, Waits, Ended, Stuck, Give, Gives, Operates, Delays, Rule, Waits-for, Moves, advances, waits, has-ended, Step, moves, sticks}
-use Rattle.rules.specs.Calls.{Machine, unloaded, Call, Reply, Does, Turn, Runs, at-rest, goes-on, last, Needy, Reached, at-first, by-call}
-use Rattle.rules.proofs.Typed.{same-some}
+use Rattle.rules.specs.Calls.{Machine, Call, Reply, Does, Turn, Runs, at-rest, goes-on, last, Reached, by-call}
 use Rattle.rules.proofs.Frames.{Runnable, function-signature, Placed, at-node, awaits-length}
 use Rattle.rules.proofs.Invariant.{Sound, running-ended}
 use Rattle.rules.proofs.Progress.{next, cause-no-rule}

@@ -3,13 +3,12 @@ use mathlib.Core.Path.{_≡_, refl, sym, ap, ap₂, subst, _∙_}
 use mathlib.Core.List.{List, [], _∷_, _++_}
 use mathlib.Core.Logic.{_≢_}
 use mathlib.Core.Option.{some}
-use Prim.Native.Nat.{ℕ, zero, suc, _+_, _≤_, _<_, _%_, min}
+use Prim.Native.Nat.{ℕ, zero, suc, _+_, _<_, _%_, min}
 use native.Mathlib.Omega.{arith}
 use lib.ListN.{length, getD, getElem?, set}
 use lib.Seq.{getD-set-other, set-comm}
 use Rattle.std.specs.declared.option.Option.{Option}
 use Rattle.std.specs.declared.option.Option.the-variants.{Some, None}
-use Rattle.reader.specs.declared.types.Ty.{Ty}
 use Rattle.reader.specs.declared.values.Operand.{Operand}
 use Rattle.reader.specs.declared.operations.Operation.{Operation}
 use Rattle.reader.specs.declared.operations.Operation.the-variants as o
@@ -17,10 +16,10 @@ use Rattle.reader.specs.Syntax.{Body, call, Function, Program}
 use Rattle.typing.specs.Signatures.{_⇒_, signature}
 use Rattle.store.specs.declared.name.Name.{Name}
 use Rattle.store.specs.Packets.{Packet, Packets, lookup, new-packet, with-holder, with-byte}
-use Rattle.store.specs.Meaning.{Meaning, with-packets}
-use Rattle.rules.specs.State.{Held, integer, owner, Frame, frame, Thread, ended, running, frames, State, thread, queue, made, packets, name, next-name, put, Edit, edited, Effect, lined, counted, stored, apply, making, popping, storing}
-use Rattle.rules.specs.Rules.{Outcome, Advanced, Waits, Gives, Operates, Rule, Waits-for, Moves, Step}
-use Rattle.rules.specs.Promises.{is, occurs, queued, Uses, No-queue-shared, Settled, Swaps}
+use Rattle.store.specs.Meaning.{with-packets}
+use Rattle.rules.specs.State.{Held, integer, owner, Frame, frame, Thread, ended, running, frames, State, queue, made, packets, name, next-name, put, Edit, edited, Effect, lined, counted, stored, apply, making, popping, storing}
+use Rattle.rules.specs.Rules.{Outcome, Advanced, Waits, Gives, Operates, Rule, Moves, Step}
+use Rattle.rules.specs.Promises.{occurs, Uses, No-queue-shared, Settled, Swaps}
 use Rattle.rules.proofs.Puts.{lookup-other, put-comm}
 use Rattle.rules.proofs.Counts.{owned, borrowed, in-frames, held, alive, present, present-at-most, total-getD, total-two, is-same, some-same}
 use Rattle.rules.proofs.Typed.{same-some}

@@ -6,7 +6,7 @@ use mathlib.Core.Option.{Option, some, Option·some-injective, Option·none-ne-s
 use Prim.Native.Nat.{ℕ, zero, suc, _+_, _≤_}
 use native.Mathlib.Omega.{arith}
 use lib.Dec.{T}
-use lib.ListN.{length, getElem?, set}
+use lib.ListN.{set}
 use Rattle.reader.specs.declared.values.Value.{Value}
 use Rattle.reader.specs.declared.values.Operand.{Operand}
 use Rattle.reader.specs.declared.operations.Operation.{Operation}
@@ -20,7 +20,6 @@ use Rattle.store.specs.declared.name.Name.{Name}
 use Rattle.rules.specs.State.{Held, nothing, integer, truth, owner, State, Effect}
 use Rattle.rules.specs.State as held
 use Rattle.rules.specs.Rules.{Give, Gives, Operates}
-use Rattle.rules.specs.Promises.{total, is}
 use Rattle.rules.proofs.Counts.{own, owned, total-put, is-at-most}
 use Rattle.rules.proofs.Contexts.{Leave, Leaves, owner?, owners}
 

@@ -3,7 +3,7 @@ use mathlib.Core.Bool.{Bool, true, false, _&&_, _||_}
 use mathlib.Core.List.{List, [], _∷_, _++_}
 use mathlib.Core.Option.{some}
 use mathlib.Core.Path.{_≡_}
-use Prim.Native.Nat.{ℕ, suc, _+_, _-_, _*_, _^_, _%_, _≤_, _<_, min}
+use Prim.Native.Nat.{ℕ, _+_, _-_, _*_, _^_, _%_, _≤_, _<_, min}
 use lib.Bits.{bitAnd, bitOr, bitXor}
 use lib.Dec.{eqb, ltb}
 use lib.ListN.{length, getD, getElem?, set}
@@ -19,7 +19,7 @@ use Rattle.reader.specs.declared.operations.Comparison.{Comparison}
 use Rattle.reader.specs.declared.operations.Comparison.the-variants.{Equal, Less}
 use Rattle.reader.specs.declared.operations.Connective.{Connective}
 use Rattle.reader.specs.declared.operations.Connective.the-variants.{And, Or}
-use Rattle.reader.specs.Syntax.{Body, return, branch, call, Function, Program}
+use Rattle.reader.specs.Syntax.{Body, return, branch, call, Function}
 use Rattle.reader.specs.declared.types.Ty.{Ty}
 use Rattle.reader.specs.declared.types.Ty.the-variants as ty
 use Rattle.typing.specs.Signatures.{_⇒_, signature}
@@ -27,7 +27,7 @@ use Rattle.typing.specs.Typing.{Tail}
 use Rattle.store.specs.declared.name.Name.{Name}
 use Rattle.store.specs.Packets.{Packet, lookup, new-packet, with-holder, with-byte}
 use Rattle.store.specs.Meaning.{Meaning, units}
-use Rattle.rules.specs.State.{Held, nothing, integer, truth, owner, alias, Frame, frame, Thread, ended, running, State, thread, queue, made, packets, name, next-name, Effect, apply, quiet, pushing, popping, storing, making}
+use Rattle.rules.specs.State.{Held, nothing, integer, truth, owner, alias, Frame, frame, Thread, ended, running, State, thread, queue, made, packets, next-name, Effect, apply, quiet, pushing, popping, storing, making}
 pub use Rattle.rules.specs.declared.outcomes.Cause.{Cause}
 pub use Rattle.rules.specs.declared.outcomes.Cause.the-variants.{EmptyQueue, FullQueue, NoName, NoRoom}
 pub use Rattle.rules.specs.declared.outcomes.Outcome.{Outcome}
