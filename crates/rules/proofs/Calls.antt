@@ -22,7 +22,7 @@ use Rattle.store.specs.declared.name.Name.{Name}
 use Rattle.store.specs.Packets.{Packet, lookup, packet}
 use Rattle.store.specs.Meaning.{Meaning, units}
 use Rattle.rules.specs.State.{frame, Thread, ended, running, frames, State, thread, queue, made, packets, name, next-name, edited, pop, affected, popping}
-use Rattle.rules.specs.Rules.{Cause, Waits-for, Moves, advances, Would-advance}
+use Rattle.rules.specs.Rules.{Cause, Waits-for, Moves, advances, Step, moves, Would-advance}
 use Rattle.rules.specs.Calls.{Machine, unloaded, loaded, Call, ready, Reply, to-ready, starts, initial, arriving, Does, finds, finds-none, Turn, Runs, Needy, Reached, by-call}
 use Rattle.rules.specs.Promises.{is, occurs, queued, Ready-tells, Promised, Runs-keep, Calls-keep}
 use Rattle.rules.proofs.Limits.{reading-small}
@@ -155,18 +155,18 @@ ended? ended = inl refl
 ended? (running f fs) = inr (λ e. let z : _≡_ {A = ℕ} 0 1 = cc in omega arith)
 
 ended-stays : (s : State) (t : ℕ) → thread s t ≡ ended → ¬ Would-advance s t
-ended-stays s t e (s′, Moves.advances r) = rule-runs r e
+ended-stays s t e (s′, Step.moves (Moves.advances r)) = rule-runs r e
 
 -- whether a thread would advance
 pub advance? : (s : State) → Sound s → (t : ℕ) → Would-advance s t ⊎ (¬ Would-advance s t)
-advance? s v t = ⊎-elim (λ e. inr (ended-stays s t e)) (λ ne. ⊎-elim (λ r. inl (_, advances (r .2))) (λ c. inr (λ w. waiting (c .1) w)) (next s v t ne)) (ended? (thread s t))
+advance? s v t = ⊎-elim (λ e. inr (ended-stays s t e)) (λ ne. ⊎-elim (λ r. inl (_, moves (advances (r .2)))) (λ c. inr (λ w. waiting (c .1) w)) (next s v t ne)) (ended? (thread s t))
   where
     waiting : {c : Cause} → Waits-for s t (thread s t) c → ¬ Would-advance s t
-    waiting c (s′, Moves.advances r) = cause-no-rule c r
+    waiting c (s′, Step.moves (Moves.advances r)) = cause-no-rule c r
 
 beyond : (s : State) (t : ℕ) → length (s .threads) < t → ¬ Would-advance s t
-beyond s zero h (s′, Moves.advances r) = rule-runs r refl
-beyond s (suc i) h (s′, Moves.advances r) = let l = running-there (s .threads) i (rule-runs r) in omega arith
+beyond s zero h (s′, Step.moves (Moves.advances r)) = rule-runs r refl
+beyond s (suc i) h (s′, Step.moves (Moves.advances r)) = let l = running-there (s .threads) i (rule-runs r) in omega arith
 
 find : (s : State) → Sound s → (k : ℕ) → ((t : ℕ) × Would-advance s t) ⊎ ((t : ℕ) → t ≤ k → ¬ Would-advance s t)
 find s v zero = ⊎-elim (λ w. inl (zero, w)) (λ n. inr (λ t l. subst (λ (u : ℕ). ¬ Would-advance s u) (let z : 0 ≡ t = omega arith in z) n)) (advance? s v zero)

@@ -39,7 +39,7 @@ receives =
     says (loads (leb→le _ _ tt) refl refl refl)
     (says (steps (leb→le _ _ tt) (leb→le _ _ tt) (moves (waits (delayed refl no-more (on-empty refl)))))
     (says (arrives (leb→le _ _ tt) (leb→le _ _ tt) (leb→le _ _ tt) (leb→le _ _ tt))
-    (says (finds (_, advances (operates refl no-more (dequeues refl refl))))
+    (says (finds (_, moves (advances (operates refl no-more (dequeues refl refl)))))
     (says (steps (leb→le _ _ tt) (leb→le _ _ tt) (moves (advances (operates refl no-more (dequeues refl refl)))))
     (says (steps (leb→le _ _ tt) (leb→le _ _ tt) (moves (advances (operates refl (one-more (spend refl) no-more) (kills refl)))))
     (says (steps (leb→le _ _ tt) (leb→le _ _ tt) (moves (advances (ends refl no-more))))

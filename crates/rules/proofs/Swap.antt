@@ -286,10 +286,10 @@ swapped s v i j ne dis a b a′ b′ ea eb ea′ eb′ ra rb′ rb ra′ =
 pub swaps : (s : State) → Sound s → Swaps s
 swaps s v a b ne dis s₁ s₂ s₃ s₄ p q r u = go a b ne dis p q r u
   where
-    go : (a b : ℕ) → a ≢ b → No-queue-shared s a b → {s₁ s₂ s₃ s₄ : State} → Moves s a Advanced s₁ → Moves s₁ b Advanced s₂ → Moves s b Advanced s₃ → Moves s₃ a Advanced s₄ → s₂ ≡ s₄
-    go zero b ne dis (Moves.advances p) q r u = absurd (rule-runs p refl)
-    go (suc i) zero ne dis p q (Moves.advances r) u = absurd (rule-runs r refl)
-    go (suc i) (suc j) ne dis (Moves.advances {r = a} {e = ea} p) (Moves.advances {r = b′} {e = eb′} q) (Moves.advances {r = b} {e = eb} r) (Moves.advances {r = a′} {e = ea′} u) =
+    go : (a b : ℕ) → a ≢ b → No-queue-shared s a b → {s₁ s₂ s₃ s₄ : State} → Step s a Advanced s₁ → Step s₁ b Advanced s₂ → Step s b Advanced s₃ → Step s₃ a Advanced s₄ → s₂ ≡ s₄
+    go zero b ne dis (Step.moves (Moves.advances p)) q r u = absurd (rule-runs p refl)
+    go (suc i) zero ne dis p q (Step.moves (Moves.advances r)) u = absurd (rule-runs r refl)
+    go (suc i) (suc j) ne dis (Step.moves (Moves.advances {r = a} {e = ea} p)) (Step.moves (Moves.advances {r = b′} {e = eb′} q)) (Step.moves (Moves.advances {r = b} {e = eb} r)) (Step.moves (Moves.advances {r = a′} {e = ea′} u)) =
         swapped s v i j (λ e. ne (ap suc e)) dis a b a′ b′ ea eb ea′ eb′ p q r u
 
 -- A step has one outcome.

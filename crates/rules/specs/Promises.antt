@@ -15,7 +15,7 @@ use Rattle.store.specs.Names.{same}
 use Rattle.store.specs.Packets.{Packet, lookup}
 use Rattle.store.specs.Meaning.{Meaning}
 use Rattle.rules.specs.State.{Held, owner, alias, Frame, frame, Thread, ended, running, State, thread, frames, packets}
-use Rattle.rules.specs.Rules.{Cause, Outcome, Advanced, Waits, Stuck, Waits-for, Moves, Step, Would-advance}
+use Rattle.rules.specs.Rules.{Cause, Outcome, Advanced, Waits, Stuck, Waits-for, Step, Would-advance}
 use Rattle.rules.specs.Calls.{Machine, unloaded, loaded, Call, ready, Reply, to-ready, Does, Turn, Runs, Needy, Reached}
 
 -- x stands in a list
@@ -120,7 +120,7 @@ No-queue-shared s a b = (q : ℕ) → Uses q (thread s a) → ¬ Uses q (thread 
 -- Two threads whose steps use no queue in common and advance whichever goes first: both orders leave the same state, its frames, queues, counts and packets.
 abbrev pub Swaps : State → Type 0
 Swaps s = (a b : ℕ) → a ≢ b → No-queue-shared s a b
-    → (s₁ s₂ s₃ s₄ : State) → Moves s a Advanced s₁ → Moves s₁ b Advanced s₂ → Moves s b Advanced s₃ → Moves s₃ a Advanced s₄ → s₂ ≡ s₄
+    → (s₁ s₂ s₃ s₄ : State) → Step s a Advanced s₁ → Step s₁ b Advanced s₂ → Step s b Advanced s₃ → Step s₃ a Advanced s₄ → s₂ ≡ s₄
 
 -- The whole promise, from the granted load on.
 pub record Promise (s : State) : Type 0 where

@@ -149,4 +149,4 @@ pub data Step (s : State) (t : ℕ) : Outcome → State → Type 0 where
 
 -- a thread would advance when a step of it now would
 abbrev pub Would-advance : State → ℕ → Type 0
-Would-advance s t = (s′ : State) × Moves s t Advanced s′
+Would-advance s t = (s′ : State) × Step s t Advanced s′
