@@ -179,8 +179,9 @@ find s v (suc k) = ⊎-elim (λ w. inl w) (λ f. ⊎-elim (λ w. inl (suc k, w))
 pub ready-tells : (s : State) → Sound s → Ready-tells s
 ready-tells s v = record {
   answered = ⊎-elim (λ w. (_, finds (w .1))) (λ n. (_, finds-none (λ t. none t (decLe t (length (s .threads))) n))) (find s v (length (s .threads)));
-  some-thread = λ t m d. some-thread d;
-  none-exactly = λ m d. none-exactly d;
+  some-thread = λ t d. some-thread d;
+  none-exactly = ((λ d. none-exactly d), λ n. finds-none n);
+  alters-nothing = λ r m d. unaltered d;
 }
   where
     none : (t : ℕ) → Dec (t ≤ length (s .threads)) → ((t : ℕ) → t ≤ length (s .threads) → ¬ Would-advance s t) → ¬ Would-advance s t
@@ -194,6 +195,11 @@ ready-tells s v = record {
     none-exactly : {m : Machine} → Does (loaded s) ready (to-ready (Ok None)) m → (t : ℕ) → ¬ Would-advance s t
     none-exactly (Does.denies d e) = elim d [ ]
     none-exactly (Does.finds-none n) = n
+
+    unaltered : {r : Reply} {m : Machine} → Does (loaded s) ready r m → m ≡ loaded s
+    unaltered (Does.denies d e) = refl
+    unaltered (Does.finds w) = refl
+    unaltered (Does.finds-none n) = refl
 
 -- The invariant of a machine.
 abbrev pub Good : Machine → Type 0

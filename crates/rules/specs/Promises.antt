@@ -4,6 +4,7 @@ use mathlib.Core.List.{List, [], _∷_}
 use mathlib.Core.Logic.{_≢_, _⊎_, _↔_}
 use mathlib.Core.Path.{_≡_}
 use Prim.Native.Nat.{ℕ, _+_}
+use Rattle.std.specs.declared.option.Option.{Option}
 use Rattle.std.specs.declared.option.Option.the-variants.{Some, None}
 use Rattle.std.specs.declared.result.Result.the-variants.{Ok}
 use Rattle.reader.specs.declared.values.Operand.{Operand}
@@ -96,11 +97,12 @@ pub record Goes-on (s : State) (t : ℕ) : Type 0 where
 abbrev pub Settled : State → Type 0
 Settled s = (t : ℕ) (a b : Outcome) (x y : State) → Step s t a x → Step s t b y → (a ≡ b) × (x ≡ y)
 
--- Ready is answered: by a thread that would advance exactly when there is one.
+-- Ready is answered, by a thread that would advance exactly when there is one, and alters nothing.
 pub record Ready-tells (s : State) : Type 0 where
-  pub answered : (r : Reply) × Does (loaded s) ready r (loaded s)
-  pub some-thread : (t : ℕ) (m : Machine) → Does (loaded s) ready (to-ready (Ok (Some t))) m → Would-advance s t
-  pub none-exactly : (m : Machine) → Does (loaded s) ready (to-ready (Ok None)) m → (t : ℕ) → ¬ Would-advance s t
+  pub answered : (x : Option ℕ) × Does (loaded s) ready (to-ready (Ok x)) (loaded s)
+  pub some-thread : (t : ℕ) → Does (loaded s) ready (to-ready (Ok (Some t))) (loaded s) → Would-advance s t
+  pub none-exactly : Does (loaded s) ready (to-ready (Ok None)) (loaded s) ↔ ((t : ℕ) → ¬ Would-advance s t)
+  pub alters-nothing : (r : Reply) (m : Machine) → Does (loaded s) ready r m → m ≡ loaded s
 
 pub record Progress (s : State) : Type 0 where
   pub goes-on : (t : ℕ) → thread s t ≢ ended → Goes-on s t

@@ -113,7 +113,7 @@ pub data Rule (s : State) (t : ℕ) : Thread → Thread → Effect → Type 0 wh
   calls : {f g p k : ℕ} {G : Function} {as′ : List Operand} {next : Body} {vs ws xs : List Held} {fs : List Frame}
       → getElem? (s .program .functions) g ≡ some G → ¬ Tail (length vs) k next → Gives vs as′ (G .params) xs ws → length fs < 7
       → Rule s t (running (frame f (call p (o.Function g) as′ k next) vs) fs) (running (frame g (G .body) xs) (frame f next ws ∷ fs)) quiet
-  -- a tail call replaces it
+  -- a tail call replaces the frame
   tail-calls : {f g p k : ℕ} {G : Function} {as′ : List Operand} {next : Body} {vs ws xs : List Held} {fs : List Frame}
       → getElem? (s .program .functions) g ≡ some G → Tail (length vs) k next → Gives vs as′ (G .params) xs ws
       → Rule s t (running (frame f (call p (o.Function g) as′ k next) vs) fs) (running (frame g (G .body) xs) fs) quiet
