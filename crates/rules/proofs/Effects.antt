@@ -1,16 +1,25 @@
 -- The effects of rules on a store, by the calls of the store.
-use mathlib.Core.Path.{_≡_}
+use mathlib.Core.Path.{_≡_, sym, subst}
+use mathlib.Core.Bool.{true, false}
 use mathlib.Core.List.{[], _∷_}
-use Prim.Native.Nat.{ℕ, _≤_, _<_}
+use Prim.Native.Nat.{ℕ, _+_, _≤_, _<_}
+use lib.Dec.{T, leb→le, le→leb}
 use lib.ListN.{length}
 use Rattle.std.specs.declared.option.Option.the-variants.{Some, None}
 use Rattle.std.specs.declared.result.Result.the-variants.{Ok}
 use Rattle.store.specs.declared.name.Name.{Name}
 use Rattle.store.specs.Packets.{Packet, new-packet, with-holder, with-byte}
-use Rattle.store.specs.Meaning.{Meaning, with-packets, found, make-answer, make-after, discard-answer, discard-after, handed, hand-answer, hand-after, write-answer, write-after}
+use Rattle.store.specs.Meaning.{Meaning, with-packets, found, units, room-for, make-answer, make-after, discard-answer, discard-after, handed, hand-answer, hand-after, write-answer, write-after}
 use Rattle.store.proofs.Answered as call
 use Rattle.rules.specs.State.{put, stored}
 use Rattle.rules.specs.Rules.{Room-for}
+
+-- room, by the store's own test
+pub room-yes : (m : Meaning) (size : ℕ) → room-for m size ≡ true → Room-for m size
+room-yes m size h = leb→le (units m + m .need size) (m .capacity) (subst T (sym h) tt)
+
+pub room-no : (m : Meaning) (size : ℕ) → room-for m size ≡ false → ¬ Room-for m size
+room-no m size h r = subst T h (le→leb (units m + m .need size) (m .capacity) r)
 
 module _ (m : Meaning) (n : Name) where
   pub make-puts : (size : ℕ) → found m n ≡ None → size ≤ m .largest → Room-for m size

@@ -1,4 +1,4 @@
--- The limits of a program that was read.
+-- The limits of a program that was read, from whatever numbers.
 use mathlib.Core.Path.{_≡_, refl, sym, ap, subst, _∙_}
 use mathlib.Core.Bool.{_&&_}
 use mathlib.Core.List.{List, [], _∷_}

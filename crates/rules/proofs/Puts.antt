@@ -42,6 +42,14 @@ put-comm n m a b ps h = packets-from-lookups (put m b (put n a ps)) (put n a (pu
         (lookup-same m b (put n a ps) ∙ sym (lookup-same m b ps) ∙ sym (lookup-other m n a (put m b ps) (λ e. h (sym e))))
     go k (no p) (no q) = lookup-other k m b (put n a ps) q ∙ lookup-other k n a ps p ∙ sym (lookup-other k n a (put m b ps) p ∙ lookup-other k m b ps q)
 
+-- the last packet put stands
+pub put-twice : (n : Name) (a b : Option Packet) (ps : Packets) → put n b (put n a ps) ≡ put n b ps
+put-twice n a b ps = packets-from-lookups (put n b (put n a ps)) (put n b ps) (λ k. go k (same? k n))
+  where
+    go : (k : Name) → Dec (k ≡ n) → lookup k (put n b (put n a ps)) ≡ lookup k (put n b ps)
+    go k (yes p) = subst (λ (x : Name). lookup x (put n b (put n a ps)) ≡ lookup x (put n b ps)) (sym p) (lookup-same n b (put n a ps) ∙ sym (lookup-same n b ps))
+    go k (no p) = lookup-other k n b (put n a ps) p ∙ lookup-other k n a ps p ∙ sym (lookup-other k n b ps p)
+
 -- with needs of at least 1, nothing used is nothing alive
 pub none-used : (need : ℕ → ℕ) (ps : Packets) → ((k : ℕ) → 1 ≤ need k) → used need ps ≡ 0 → (n : Name) → lookup n ps ≡ None
 none-used need ps h z n = go (lookup n ps) (let a = used-remove need n ps in omega arith)
