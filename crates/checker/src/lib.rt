@@ -1,0 +1,3 @@
+//! The check of a program: three layers of questions, the first no decides.
+mod marks;
+mod asks;
