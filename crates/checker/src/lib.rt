@@ -1,3 +1,4 @@
 //! The check of a program: three layers of questions, the first no decides.
 mod marks;
 mod asks;
+mod lists;
