@@ -19,7 +19,7 @@ use Rattle.typing.specs.Typing.{Ctx}
 use Rattle.typing.specs.Marks.{give, gives, note}
 use Rattle.checker.proofs.Leaves.{drop-nth, nth-none}
 
-never : {X : Type 0} (e : Fault) (x : X) → _≡_ {A = Result X Fault} (Err e) (Ok x) → ⊥
+pub never : {X : Type 0} (e : Fault) (x : X) → _≡_ {A = Result X Fault} (Err e) (Ok x) → ⊥
 never e x h = let z : _≡_ {A = ℕ} 0 1 = cc in omega arith
 
 module _ (b : List ℕ) (e f : ℕ) where

@@ -9,7 +9,7 @@ ghost use Rattle.reader.specs.Fields.{In, valuesAt};
 ghost use Rattle.reader.specs.Syntax.{Body};
 ghost use Rattle.reader.specs.Nodes.{bodyAt};
 ghost use Rattle.rows.specs.Rows.{items};
-ghost use Rattle.typing.specs.Marks.{gives, note, consecutive, is-tail};
+ghost use Rattle.typing.specs.Marks.{gives, note, is-variable, consecutive, is-tail};
 ghost use Rattle.checker.specs.Walks.{context, changed};
 use crate::marks::Marks;
 use reader::faults::Fault;
@@ -47,4 +47,49 @@ pub(crate) fn give_all(window: &Window, marks: &mut Marks, values: Values, wante
         place = next;
     }
     Ok(())
+}
+
+/// Whether a value is the variable of a number.
+fn is_variable(value: Value, number: usize) -> bool
+    ensures { λ r. ⌜ r ≡ is-variable number value ⌝ }
+{
+    match value {
+        Value::Variable(x) => usize::from(x) == number,
+        _ => false,
+    }
+}
+
+/// Whether the values are the variables from `first` on, in order.
+fn consecutive(window: &Window, first: usize, values: Values) -> bool
+    requires { ⌜ first ≤ 16 ⌝ }
+    ensures { λ r. ⌜ ((vs : List Placed) (z : ℕ) → In (now (window .entry)) valuesAt (values .count) (values .place) ≡ Ok (vs, z) → r ≡ consecutive first (values .count) vs) ⌝ }
+{
+    let mut place = values.place;
+    for k in 0..values.count {
+        let Ok((value, next)) = window.value(place) else {
+            return false;
+        };
+        if !is_variable(value, first + usize::from(k)) {
+            return false;
+        }
+        place = next;
+    }
+    true
+}
+
+/// Whether a call of `results` results, bound from `first` on, is a tail call: the body at the place behind it returns just them.
+pub(crate) fn is_tail(window: &Window, ifs: u8, first: usize, results: u8, place: usize) -> bool
+    requires { ⌜ first ≤ 16 ⌝ }
+    ensures { λ r. ⌜ ((t : Body × ℕ) → In (now (window .entry)) bodyAt ifs place ≡ Ok t → r ≡ is-tail first results (t .0)) ⌝ }
+{
+    let Ok((node, _)) = window.node(ifs, place) else {
+        return false;
+    };
+    let Node::Return { values } = node else {
+        return false;
+    };
+    if values.count != results {
+        return false;
+    }
+    consecutive(window, first, values)
 }

@@ -115,3 +115,12 @@ module _ (b : List ℕ) (e f : ℕ) where
       of (calls o vs n, z) l k =
           let u = then-ok (bodyAt b e f ifs z) _ t k in
           record { operands = vs; stop = l .0; rest = u .0; long = refl; reads = ap (valuesAt b e f (length vs)) (omega arith) ∙ l .1; reads-rest = u .1; is = sym (ok-same (call p o vs n (u .0 .0), u .0 .1) t (u .2)) }
+
+  -- the first node of a body that reads is read
+  pub node-reads : (ifs p : ℕ) (t : Body × ℕ) (x : Fault) → bodyAt b e f ifs p ≡ Ok t → Err x ≡ sight p (nodeAt b e f ifs p) → ⊥
+  node-reads ifs p t x h k =
+      let g = then-ok (nodeAt b e f ifs p) _ t (sym (body-is b e f ifs p) ∙ h) in
+      never x (seen p (g .0 .0), g .0 .1) (k ∙ ap (sight p) (g .1))
+    where
+      never : (x : Fault) (y : Node × ℕ) → _≡_ {A = Read Node} (Err x) (Ok y) → ⊥
+      never x y h = let z : _≡_ {A = ℕ} 0 1 = cc in omega arith
