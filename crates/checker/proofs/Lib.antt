@@ -1,3 +1,4 @@
 pub mod Leaves
 pub mod Giving
 pub mod Tails
+pub mod Whole

@@ -2,3 +2,5 @@
 mod marks;
 mod asks;
 mod lists;
+mod walks;
+mod nodes;
