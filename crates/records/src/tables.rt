@@ -3,6 +3,10 @@ use reader::headers::Header;
 use reader::types::Ty;
 use rows::row::Row;
 
+pub mod glances;
+pub mod making;
+pub mod records;
+
 /// The counts of a program that reads, and the place of each of its records.
 #[derive(Clone, Copy)]
 pub struct Table<'a> {
