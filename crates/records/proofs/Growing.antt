@@ -1,14 +1,14 @@
--- Rows that grow by what is read: one more, and how much room there is.
+-- Rows that grow by what is read: one more.
 use mathlib.Core.Path.{_≡_, refl, sym, ap, _∙_}
 use mathlib.Core.List.{List, [], _∷_, _++_}
 use mathlib.Core.Bool.{Bool}
 use Prim.Native.Nat.{ℕ, zero, suc, _+_, _-_, _<_, _≤_}
 use native.Mathlib.Omega.{arith}
 use lib.Dec.{ltb}
-use lib.ListN.{length}
+use lib.ListN.{length, take, set}
 use Rattle.std.specs.declared.result.Result.{Result}
 use Rattle.std.specs.declared.result.Result.the-variants.{Ok, Err}
-use Rattle.std.proofs.shelf.Lists.{append-assoc, append-nil, length-append}
+use Rattle.std.proofs.shelf.Lists.{append-assoc, append-nil, length-append, take-more-set}
 use Rattle.std.proofs.shelf.Tests.{lt-ltb}
 use Rattle.reader.specs.declared.faults.Fault.{Fault}
 use Rattle.reader.specs.declared.types.Ty.{Ty}
@@ -76,23 +76,22 @@ module _ (b : List ℕ) (e f : ℕ) where
       let s : n - i ≡ 0 = omega arith in
       sym (ap (λ k. joined ts (typesAt b e f k p)) s ∙ ap (λ us. Ok (us, p)) (append-nil ts)) ∙ h
 
--- one more place, in a row of m at most
-pub starts-step : (b : List ℕ) (e m n i p q : ℕ) (ps qs all : List ℕ) (t : Bool) → i < n → n ≤ m → t ≡ ltb (length ps) m → qs ≡ pushed t ps p → q ≡ after b e p
-    → (ps ++ starts b e (n - i) p ≡ all) × (length ps ≡ i) → (qs ++ starts b e (n - (i + 1)) q ≡ all) × (length qs ≡ i + 1)
-starts-step b e m n i p q ps qs all t l k room grown moved h =
+-- one more place, written where the last one ended
+pub starts-step : (b : List ℕ) (e n i j p q : ℕ) (ps all : List ℕ) → i < n → n ≤ length ps → j ≡ i → q ≡ after b e p
+    → take i ps ++ starts b e (n - i) p ≡ all → take (i + 1) (set ps j p) ++ starts b e (n - (i + 1)) q ≡ all
+starts-step b e n i j p q ps all l k at moved h =
     let s : n - i ≡ suc (n - (i + 1)) = omega arith in
-    let more : qs ≡ ps ++ p ∷ [] = grown ∙ pushed-room ps p t m room (omega (arith, h .1)) in
-    let is : ps ++ starts b e (n - i) p ≡ qs ++ starts b e (n - (i + 1)) q
-        = ap (λ k. ps ++ starts b e k p) s ∙ sym (append-assoc ps (p ∷ []) (starts b e (n - (i + 1)) (after b e p)))
-        ∙ (λ j. sym more j ++ starts b e (n - (i + 1)) (sym moved j)) in
-    (sym is ∙ h .0, omega (arith, ap length more, longer ps p, h .1))
+    let more : take (i + 1) (set ps j p) ≡ take i ps ++ p ∷ [] = ap (λ y. take (i + 1) (set ps y p)) at ∙ take-more-set ps i p (omega arith) in
+    let is : take i ps ++ starts b e (n - i) p ≡ take (i + 1) (set ps j p) ++ starts b e (n - (i + 1)) q
+        = ap (λ y. take i ps ++ starts b e y p) s ∙ sym (append-assoc (take i ps) (p ∷ []) (starts b e (n - (i + 1)) (after b e p)))
+        ∙ (λ y. sym more y ++ starts b e (n - (i + 1)) (sym moved y)) in
+    sym is ∙ h
 
-pub starts-first : (b : List ℕ) (e n p : ℕ) (ps : List ℕ) → ps ≡ [] → (ps ++ starts b e (n - 0) p ≡ starts b e n p) × (length ps ≡ 0)
-starts-first b e n p ps h =
-    let s : n - 0 ≡ n = omega arith in
-    (ap (λ qs. qs ++ starts b e (n - 0) p) h ∙ ap (λ k. starts b e k p) s, ap length h)
-
-pub starts-last : (b : List ℕ) (e n i p : ℕ) (ps all : List ℕ) → n ≤ i → (ps ++ starts b e (n - i) p ≡ all) × (length ps ≡ i) → ps ≡ all
-starts-last b e n i p ps all l h =
+pub starts-last : (b : List ℕ) (e n i p : ℕ) (ps all : List ℕ) → n ≤ i → i ≤ n → take i ps ++ starts b e (n - i) p ≡ all → take n ps ≡ all
+starts-last b e n i p ps all l k h =
     let s : n - i ≡ 0 = omega arith in
-    sym (ap (λ k. ps ++ starts b e k p) s ∙ append-nil ps) ∙ h .0
+    let o : n ≡ i = omega arith in
+    ap (λ y. take y ps) o ∙ sym (ap (λ y. take i ps ++ starts b e y p) s ∙ append-nil (take i ps)) ∙ h
+
+pub starts-first : (b : List ℕ) (e n p : ℕ) → starts b e (n - 0) p ≡ starts b e n p
+starts-first b e n p = let s : n - 0 ≡ n = omega arith in ap (λ k. starts b e k p) s

@@ -1,15 +1,13 @@
 //! How a table is made.
 ghost use mathlib.Core.Path.{_≡_};
 ghost use Prim.Native.Nat.{_≤_};
-ghost use lib.ListN.{length};
-ghost use Rattle.rows.specs.Rows.{items};
+ghost use lib.ListN.{length, take};
 ghost use Rattle.records.specs.Glances.{after, starts};
 ghost use Rattle.records.specs.Tables.{Tabled};
 use super::Table;
 use reader::faults::Fault;
 use reader::programs;
 use reader::windows::Window;
-use rows::row::Row;
 
 /// Where the length of the record at a place leads, or the end of the program.
 fn place_after(program: &[u8], place: usize) -> usize
@@ -29,14 +27,14 @@ fn place_after(program: &[u8], place: usize) -> usize
 }
 
 /// The places of `count` records, the first right after the counts.
-fn places(program: &[u8], count: u8) -> Row<usize, 64>
+fn places(program: &[u8], count: u8) -> [usize; 64]
     requires { ⌜ count ≤ 64 ⌝ }
-    ensures { λ r. ⌜ items r ≡ starts (now (program .entry)) (length (now (program .entry))) count 6 ⌝ }
+    ensures { λ r. ⌜ take count r ≡ starts (now (program .entry)) (length (now (program .entry))) count 6 ⌝ }
 {
-    let mut places = Row::new(0);
+    let mut places = [0; 64];
     let mut place = 6;
-    for _i in 0..count {
-        places.push(place);
+    for i in 0..count {
+        places[usize::from(i)] = place;
         place = place_after(program, place);
     }
     places

@@ -11,7 +11,10 @@ impl Table<'_> {
     pub fn record(&self, function: u8) -> Option<Record>
         ensures { λ r. ⌜ ((P : Program) → Stands (now (self .entry)) P → Recorded (now (now (self .entry) .program)) P function r) ⌝ }
     {
-        let place = self.places.get(usize::from(function))?;
+        if function >= self.header.functions || function >= 64 {
+            return None;
+        }
+        let place = self.places[usize::from(function)];
         glance_at(self.program, function, place).ok()
     }
 }

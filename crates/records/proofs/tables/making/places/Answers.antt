@@ -1,22 +1,24 @@
+use borrow.Author.Needs.{needs}
+use mathlib.Core.Path.{_≡_, _∙_}
 use native.Mathlib.Omega.{arith}
+use Prim.Native.Nat.{_≤_}
 use lib.ListN.{length}
-use Rattle.rows.specs.Rows.{items}
+use Rattle.std.proofs.shelf.Lists.{length-set}
 use Rattle.records.proofs.Growing.{starts-first, starts-step, starts-last}
 use Rattle.records.proofs.tables.making.places.Needs as need
 
 pub loop-i-holds : need.loop-i-holds
-loop-i-holds c =
-    let b = c .args .program .now in
-    starts-first b (length b) (c .args .count) 6 (items (c .new-places .result)) (c .new-places .ensures)
+loop-i-holds c = let b = c .args .program .now in (starts-first b (length b) (c .args .count) 6, search needs)
 
 pub loop-i-again : need.loop-i-again
 loop-i-again c =
     let b = c .args .program .now in
-    starts-step b (length b) 64 (c .args .count) (c .loop-i .-i) (c .loop-i .place) (c .place-after-place .result)
-    (items (c .loop-i .places)) (items (c .push .last .self)) _ (c .push .result) (omega arith) (c .pre) (c .push .ensures .room) (c .push .ensures .after)
-    (c .place-after-place .ensures) (c .loop-i .inv)
+    let l : c .args .count ≤ length (c .loop-i .places) = omega (arith, c .pre, c .loop-i .inv .1) in
+    (starts-step b (length b) (c .args .count) (c .loop-i .i) (c .from .result) (c .loop-i .place) (c .place-after-place .result) (c .loop-i .places) _
+    (omega arith) l (c .from .ensures) (c .place-after-place .ensures) (c .loop-i .inv .0),
+    length-set (c .loop-i .places) (c .from .result) (c .loop-i .place) ∙ c .loop-i .inv .1)
 
 pub returns : need.returns
 returns c =
     let b = c .args .program .now in
-    starts-last b (length b) (c .args .count) (c .loop-i .-i) (c .loop-i .place) (items (c .loop-i .places)) _ (omega arith) (c .loop-i .inv)
+    starts-last b (length b) (c .args .count) (c .loop-i .i) (c .loop-i .place) (c .loop-i .places) _ (omega arith) (omega arith) (c .loop-i .inv .0)
