@@ -5,10 +5,10 @@ use mathlib.Core.Bool.{Bool}
 use Prim.Native.Nat.{ℕ, zero, suc, _+_, _-_, _<_, _≤_}
 use native.Mathlib.Omega.{arith}
 use lib.Dec.{ltb}
-use lib.ListN.{length, take, set}
+use lib.ListN.{length, getD, take, set}
 use Rattle.std.specs.declared.result.Result.{Result}
 use Rattle.std.specs.declared.result.Result.the-variants.{Ok, Err}
-use Rattle.std.proofs.shelf.Lists.{append-assoc, append-nil, length-append, take-more-set}
+use Rattle.std.proofs.shelf.Lists.{append-assoc, append-nil, length-append, length-take-le, take-more, take-more-set}
 use Rattle.std.proofs.shelf.Tests.{lt-ltb}
 use Rattle.reader.specs.declared.faults.Fault.{Fault}
 use Rattle.reader.specs.declared.types.Ty.{Ty}
@@ -95,3 +95,10 @@ starts-last b e n i p ps all l k h =
 
 pub starts-first : (b : List ℕ) (e n p : ℕ) → starts b e (n - 0) p ≡ starts b e n p
 starts-first b e n p = let s : n - 0 ≡ n = omega arith in ap (λ k. starts b e k p) s
+
+-- one more of a list, in a row of m at most
+pub row-step : {X : Type 0} (m i : ℕ) (xs ts us : List X) (d : X) (t : Bool) → i < length xs → length xs ≤ m → t ≡ ltb (length ts) m → us ≡ pushed t ts (getD xs i d)
+    → ts ≡ take i xs → us ≡ take (i + 1) xs
+row-step m i xs ts us d t l k room grown h =
+    let long : length ts ≡ i = ap length h ∙ length-take-le i xs (omega arith) in
+    grown ∙ pushed-room ts (getD xs i d) t m room (omega arith) ∙ ap (λ ys. ys ++ getD xs i d ∷ []) h ∙ sym (take-more xs i d l)
