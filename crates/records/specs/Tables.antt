@@ -4,7 +4,7 @@ use mathlib.Core.List.{List, [], _∷_}
 use mathlib.Core.Option.{none, some}
 use Prim.Native.Nat.{ℕ, _≤_}
 use denote.Ref.{now}
-use lib.ListN.{length, getElem?}
+use lib.ListN.{length, take, getElem?}
 use Rattle.std.specs.declared.option.Option.{Option}
 use Rattle.std.specs.declared.option.Option.the-variants.{Some, None}
 use Rattle.std.specs.declared.result.Result.{Result}
@@ -29,7 +29,7 @@ places (F ∷ Fs) = F .place ∷ places Fs
 pub record Stands (t : Table) (P : Program) : Type 0 where
   pub reads : reading (now (t .program)) ≡ Ok P
   pub counts : t .header ≡ header P
-  pub standing : items (t .places) ≡ places (P .functions)
+  pub standing : take (t .header .functions) (t .places) ≡ places (P .functions)
 
 -- the table of bytes: one that stands for the program they read as, or the first fault of layer 1
 abbrev pub Tabled : List ℕ → Result Table Fault → Type 0

@@ -2,6 +2,8 @@
 use reader::types::Ty;
 use rows::row::Row;
 
+pub mod calls;
+
 /// What a callee takes and gives, and the depth of a function of the program.
 #[derive(Clone, Copy)]
 pub struct Callee {
