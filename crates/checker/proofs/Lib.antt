@@ -2,3 +2,4 @@ pub mod Leaves
 pub mod Giving
 pub mod Tails
 pub mod Whole
+pub mod Paths

@@ -2,7 +2,7 @@
 use mathlib.Core.Path.{_≡_}
 use mathlib.Core.Bool.{true, false, _&&_}
 use mathlib.Core.List.{List, [], _++_, map}
-use mathlib.Core.Option.{some}
+use mathlib.Core.Option.{Option as Maybe, some}
 use Prim.Native.Nat.{ℕ, _+_}
 use denote.Ref.{now}
 use lib.Dec.{eqb, leb}
@@ -49,15 +49,20 @@ leaving i p H vs τs =
     then (gives i H [] vs τs) λ H′.
     ask q.OwnersSpent i p (all-spent H′)
 
--- a call at p of function i, which has depth d: the marks of what follows it
+-- a call at p of function i, which has depth d, after its arguments: room for its results of the types τs, and the depth of what it calls
+abbrev pub binding : (i p d : ℕ) → Maybe ℕ → (j : ℕ) → Body → List Ty → Ctx → Result Ctx Fault
+binding i p d c j e τs H =
+    then (ask q.Room i p (leb (length H + j) 16)) λ _.
+    then (ask q.DepthRule i p (depth-holds d c (is-tail (length H) j e))) λ _.
+    Ok (H ++ map Has τs)
+
+-- the whole call: the marks of what follows it
 abbrev pub entering : Program → (i p d : ℕ) → Ctx → Operation → List Operand → (j : ℕ) → Body → Result Ctx Fault
 entering P i p d H f vs j e =
     then (known q.Callee i p (signature P f)) λ s.
     then (ask q.Counts i p (eqb (length vs) (length (s .params)) && eqb j (length (s .results)))) λ _.
     then (gives i H [] vs (s .params)) λ H′.
-    then (ask q.Room i p (leb (length H′ + j) 16)) λ _.
-    then (ask q.DepthRule i p (depth-holds d (callee-depth P f) (is-tail (length H′) j e))) λ _.
-    Ok (H′ ++ map Has (s .results))
+    binding i p d (callee-depth P f) j e (s .results) H′
 
 -- a walk over the body of a function of a program
 pub record Walks (w : Walk) (P : Program) (F : Function) : Type 0 where

@@ -4,3 +4,4 @@ mod asks;
 mod lists;
 mod walks;
 mod nodes;
+mod bodies;

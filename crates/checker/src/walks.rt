@@ -1,5 +1,7 @@
 //! What a walk over a body needs to know.
+use reader::operations::Operation;
 use reader::types::Ty;
+use reader::values::Values;
 use reader::windows::Window;
 use records::tables::Table;
 use rows::row::Row;
@@ -13,4 +15,14 @@ pub(crate) struct Walk<'a> {
     pub(crate) window: Window<'a>,
     pub(crate) depth: u8,
     pub(crate) results: Row<Ty, 8>,
+}
+
+/// A call node, and the place of the node behind it.
+#[derive(Clone, Copy)]
+pub(crate) struct Call {
+    pub(crate) place: usize,
+    pub(crate) operation: Operation,
+    pub(crate) arguments: Values,
+    pub(crate) results: u8,
+    pub(crate) next: usize,
 }
