@@ -3,3 +3,5 @@ pub mod Giving
 pub mod Tails
 pub mod Whole
 pub mod Paths
+pub mod Places
+pub mod Aliases

@@ -23,6 +23,7 @@ use Rattle.typing.specs.declared.entries.Entry.the-variants.{Has as has}
 use Rattle.typing.specs.Typing.{Ctx}
 use Rattle.typing.specs.Signatures.{Signature, signature, callee-depth}
 use Rattle.typing.specs.Marks.{ask, known, gives, test, is-tail, depth-holds, body}
+use Rattle.typing.specs.Layers.{inside}
 use Rattle.checker.specs.declared.walks.Walk.{Walk}
 use Rattle.checker.specs.Walks.{leaving, binding, entering, Walks}
 
@@ -89,3 +90,13 @@ pub taken : (w : Walk) (ifs p next : ℕ) (t : Body × ℕ) (n m : Node) → In 
   → Parts (w .window .bytes .now) (w .window .end) (w .window .function) ifs p t (m, next)
 taken w ifs p next t n m h k q =
     parts (w .window .bytes .now) (w .window .end) (w .window .function) ifs p t (m, next) h (ap (λ (x : Node). Ok (x, next)) (sym q) ∙ k)
+
+-- the body of a function, from its parameters
+pub inside-is : (P : Program) (i : ℕ) (F : Function) (H : Ctx) (z : ℕ) (a : Result ℕ Fault) → a ≡ Answer P i F H (F .body, z) → H ≡ map has (F .params)
+  → then a (λ _. Ok tt) ≡ inside P i F
+inside-is P i F H z a h k =
+    ap (λ x. then x (λ _. Ok tt)) (h ∙ ap (λ (G : Ctx). Answer P i F G (F .body, z)) k) ∙ whole (body P i F (map has (F .params)) (F .body))
+  where
+    whole : (r : Result (Unit {0}) Fault) → then (then r (λ _. Ok z)) (λ _. Ok tt) ≡ r
+    whole (Ok u) = refl
+    whole (Err e) = refl

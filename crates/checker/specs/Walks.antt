@@ -3,7 +3,7 @@ use mathlib.Core.Path.{_≡_}
 use mathlib.Core.Bool.{true, false, _&&_}
 use mathlib.Core.List.{List, [], _++_, map}
 use mathlib.Core.Option.{Option as Maybe, some}
-use Prim.Native.Nat.{ℕ, _+_}
+use Prim.Native.Nat.{ℕ, _+_, _<_}
 use denote.Ref.{now}
 use lib.Dec.{eqb, leb}
 use lib.ListN.{length, getElem?}
@@ -17,7 +17,7 @@ use Rattle.reader.specs.declared.operations.Operation.{Operation}
 use Rattle.reader.specs.declared.types.Ty.{Ty}
 use Rattle.reader.specs.declared.values.Value.{Value}
 use Rattle.reader.specs.declared.values.Operand.{Operand}
-use Rattle.reader.specs.Fields.{then}
+use Rattle.reader.specs.Fields.{then, denied}
 use Rattle.reader.specs.Syntax.{Body, Function, Program}
 use Rattle.records.specs.Tables.{Stands}
 use Rattle.rows.specs.Rows.{items}
@@ -27,6 +27,7 @@ use Rattle.typing.specs.declared.entries.Entry.the-variants.{Has}
 use Rattle.typing.specs.Signatures.{signature, callee-depth}
 use Rattle.typing.specs.Marks.{ask, known, bound, entry, gives, all-spent, is-tail, depth-holds}
 use Rattle.checker.specs.declared.walks.Walk.{Walk}
+use Rattle.typing.specs.Layers.{no-alias}
 use Rattle.checker.specs.declared.marks.Marks.{Marks}
 
 -- the marks as a context
@@ -71,3 +72,8 @@ pub record Walks (w : Walk) (P : Program) (F : Function) : Type 0 where
   pub function : getElem? (P .functions) (w .window .function) ≡ some F
   pub depth : w .depth ≡ F .depth
   pub results : items (w .results) ≡ F .results
+
+-- the first alias among the types of results: what the question about them answers, from wherever they stand
+abbrev pub Aliased : List Ty → Option ℕ → Type 0
+Aliased τs None = (i p : ℕ) → no-alias i p τs ≡ Ok tt
+Aliased τs (Some k) = (k < length τs) × ((i p : ℕ) → no-alias i p τs ≡ denied q.NoAliasResult i (p + k))

@@ -5,3 +5,4 @@ mod lists;
 mod walks;
 mod nodes;
 mod bodies;
+mod functions;

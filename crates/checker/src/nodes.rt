@@ -47,7 +47,7 @@ fn deep_enough(depth: u8, callee: Option<u8>, tailed: bool) -> bool
 
 impl Marks {
     /// Binds a variable of each type.
-    fn bind_all(&mut self, types: &Row<Ty, 8>)
+    pub(crate) fn bind_all(&mut self, types: &Row<Ty, 8>)
         ensures { λ _. ⌜ (length (context (now (self .entry))) + length (items (now (types .entry))) ≤ 16 → context (now (self .exit)) ≡ context (now (self .entry)) ++ map Has (items (now (types .entry)))) ⌝ }
     {
         for i in 0..types.len() {
