@@ -5,3 +5,4 @@ pub mod Whole
 pub mod Paths
 pub mod Places
 pub mod Aliases
+pub mod Each

@@ -6,3 +6,4 @@ mod walks;
 mod nodes;
 mod bodies;
 mod functions;
+pub mod layers;
