@@ -79,6 +79,7 @@ record-parts b e f p x h =
           body-read = ht ∙ ap (λ y. Ok (t .0, y)) stop;
         } in
         subst (λ (y : Function × ℕ). (s : Parts b e f p (y .0)) × (y .1 ≡ s .end)) is (R, stop)
+
     parts : (z s : ℕ) → s ≡ p + 2 → z ≡ p + 2 + half b p → z ≤ e → recordIn b z f p s ≡ Ok x → (s : Parts b e f p (x .0)) × (x .1 ≡ s .end)
     parts z s at long l h =
         let d = then-ok (rangeAt q.DepthLimit 0 7 b z f s) _ x h in

@@ -133,11 +133,14 @@ recorded b P n i j ps r o h long standing l at k is =
     said (Ok r) F g s k =
         let m = ok-same (glance r) (record { depth = F .depth; params = F .params; results = F .results; body = s .results; end = s .end }) k in
         let body : r .body ≡ s .results = ap (λ (y : Glance). y .body) m in
-        let end : r .end ≡ s .end = ap (λ (y : Glance). y .end) m in
-        (F, g, record {
-          depth = ap (λ (y : Glance). y .depth) m;
-          params = ap (λ (y : Glance). y .params) m;
-          results = ap (λ (y : Glance). y .results) m;
-          body = (λ j. bodyAt b (end j) i 0 (body j)) ∙ s .body-read ∙ ap (λ z. Ok (F .body, z)) (sym end);
-          inside = omega (arith, s .inside);
-        })
+        let end : r .end ≡ s .end = ap (λ (y : Glance). y .end) m in (
+          F,
+          g,
+          record {
+            depth = ap (λ (y : Glance). y .depth) m;
+            params = ap (λ (y : Glance). y .params) m;
+            results = ap (λ (y : Glance). y .results) m;
+            body = (λ j. bodyAt b (end j) i 0 (body j)) ∙ s .body-read ∙ ap (λ z. Ok (F .body, z)) (sym end);
+            inside = omega (arith, s .inside);
+          },
+        )
