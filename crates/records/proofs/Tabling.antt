@@ -25,9 +25,8 @@ use Rattle.reader.proofs.Results.{then-ok, pass-ok, ok-same, made-ok}
 use Rattle.reader.proofs.Lists.{range-after}
 use Rattle.reader.proofs.Rows.{records-long}
 use Rattle.reader.proofs.WritesProgram.{ended-ok}
-use Rattle.rows.specs.Rows.{items}
 use Rattle.records.specs.declared.tables.Record.{Record}
-use Rattle.records.specs.Tables.{places, Says, Recorded}
+use Rattle.records.specs.Tables.{places, Recorded}
 use Rattle.records.specs.Glances.{Glance, glance, glanced, glanceAt, starts}
 use Rattle.records.proofs.Standing.{Parts, record-parts, glance-of, starts-are, Found, records-found}
 
