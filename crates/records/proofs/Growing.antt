@@ -2,7 +2,7 @@
 use mathlib.Core.Path.{_≡_, refl, sym, ap, _∙_}
 use mathlib.Core.List.{List, [], _∷_, _++_}
 use mathlib.Core.Bool.{Bool}
-use Prim.Native.Nat.{ℕ, zero, suc, _+_, _-_, _<_, _≤_}
+use Prim.Native.Nat.{ℕ, suc, _+_, _-_, _<_, _≤_}
 use native.Mathlib.Omega.{arith}
 use lib.Dec.{ltb}
 use lib.ListN.{length, getD, take, set}
@@ -52,10 +52,12 @@ module _ (b : List ℕ) (e f : ℕ) where
       → Ok (u, q) ≡ typeAt b e f p
       → (joined ts (typesAt b e f (n - i) p) ≡ all) × (length ts ≡ i) → (joined us (typesAt b e f (n - (i + 1)) q) ≡ all) × (length us ≡ i + 1)
   types-step m n i p q u ts us all t l k room grown read h =
-      let is : us ≡ ts ++ u ∷ [] = grown ∙ pushed-room ts u t m room (omega (arith, h .1)) in
-      (ap (λ vs. joined vs (typesAt b e f (n - (i + 1)) q)) is
-      ∙ sym (more ts n i p l ∙ go (λ (v : Ty × ℕ). joined (ts ++ v .0 ∷ []) (typesAt b e f (n - (i + 1)) (v .1))) (sym read) refl)
-      ∙ h .0, omega (arith, ap length is, longer ts u, h .1))
+      let is : us ≡ ts ++ u ∷ [] = grown ∙ pushed-room ts u t m room (omega (arith, h .1)) in (
+        ap (λ vs. joined vs (typesAt b e f (n - (i + 1)) q)) is
+            ∙ sym (more ts n i p l ∙ go (λ (v : Ty × ℕ). joined (ts ++ v .0 ∷ []) (typesAt b e f (n - (i + 1)) (v .1))) (sym read) refl)
+            ∙ h .0,
+        omega (arith, ap length is, longer ts u, h .1),
+      )
 
   pub types-break : (n i p : ℕ) (x : Fault) (ts : List Ty) (all : Read (List Ty)) → i < n → Err x ≡ typeAt b e f p
       → joined ts (typesAt b e f (n - i) p) ≡ all → Err x ≡ all
@@ -83,8 +85,8 @@ starts-step b e n i j p q ps all l k at moved h =
     let s : n - i ≡ suc (n - (i + 1)) = omega arith in
     let more : take (i + 1) (set ps j p) ≡ take i ps ++ p ∷ [] = ap (λ y. take (i + 1) (set ps y p)) at ∙ take-more-set ps i p (omega arith) in
     let is : take i ps ++ starts b e (n - i) p ≡ take (i + 1) (set ps j p) ++ starts b e (n - (i + 1)) q
-        = ap (λ y. take i ps ++ starts b e y p) s ∙ sym (append-assoc (take i ps) (p ∷ []) (starts b e (n - (i + 1)) (after b e p)))
-        ∙ (λ y. sym more y ++ starts b e (n - (i + 1)) (sym moved y)) in
+    = ap (λ y. take i ps ++ starts b e y p) s ∙ sym (append-assoc (take i ps) (p ∷ []) (starts b e (n - (i + 1)) (after b e p)))
+    ∙ (λ y. sym more y ++ starts b e (n - (i + 1)) (sym moved y)) in
     sym is ∙ h
 
 pub starts-last : (b : List ℕ) (e n i p : ℕ) (ps all : List ℕ) → n ≤ i → i ≤ n → take i ps ++ starts b e (n - i) p ≡ all → take n ps ≡ all

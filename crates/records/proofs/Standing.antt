@@ -1,33 +1,25 @@
 -- The records of a program that reads: where each stands, and what it says.
 use mathlib.Core.Path.{_≡_, refl, sym, ap, subst, _∙_}
 use mathlib.Core.List.{List, [], _∷_}
-use mathlib.Core.Option.{none, some}
-use mathlib.Core.Bool.{Bool, true, false, _&&_}
+use mathlib.Core.Option.{some}
+use mathlib.Core.Bool.{true, false, _&&_}
 use Prim.Native.Nat.{ℕ, zero, suc, _+_, _≤_}
 use native.Mathlib.Omega.{arith}
 use lib.Dec.{leb}
-use lib.ListN.{length, getElem?}
-use Rattle.std.specs.declared.option.Option.the-variants.{Some, None}
-use Rattle.std.specs.declared.result.Result.{Result}
-use Rattle.std.specs.declared.result.Result.the-variants.{Ok, Err}
-use Rattle.std.specs.Vec.{made}
-use Rattle.std.proofs.shelf.Tests.{leb-true, le-leb, and-parts}
+use lib.ListN.{getElem?}
+use Rattle.std.specs.declared.result.Result.the-variants.{Ok}
+use Rattle.std.proofs.shelf.Tests.{leb-true, le-leb}
 use Rattle.reader.specs.declared.questions.Question.{Question}
 use Rattle.reader.specs.declared.questions.Question.the-variants as q
-use Rattle.reader.specs.declared.faults.Fault.{Fault}
-use Rattle.reader.specs.declared.headers.Header.{Header}
 use Rattle.reader.specs.declared.types.Ty.{Ty}
-use Rattle.reader.specs.Syntax.{Body, Function, Program}
-use Rattle.reader.specs.Fields.{Read, then, denied, half, byteAt, halfAt, rangeAt}
+use Rattle.reader.specs.Syntax.{Body, Function}
+use Rattle.reader.specs.Fields.{denied, half, byteAt, halfAt, rangeAt}
 use Rattle.reader.specs.Nodes.{bodyAt}
-use Rattle.reader.specs.Programs.{signatureAt, recordIn, recordAt, recordsAt, lengthOk, headerAt, programIn, reading, header, headed}
-use Rattle.reader.proofs.Results.{then-ok, pass-ok, ok-same, go, pass, made-ok}
-use Rattle.reader.proofs.Lists.{range-after}
-use Rattle.reader.proofs.Rows.{records-long}
+use Rattle.reader.specs.Programs.{signatureAt, recordIn, recordAt, recordsAt}
+use Rattle.reader.proofs.Results.{then-ok, pass-ok, ok-same, go, pass}
 use Rattle.reader.proofs.WritesProgram.{ended-ok}
-use Rattle.rows.specs.Rows.{nth}
 use Rattle.records.specs.Tables.{places}
-use Rattle.records.specs.Glances.{Glance, glanceIn, glanceAt, after, starts}
+use Rattle.records.specs.Glances.{glanceIn, glanceAt, after, starts}
 
 -- the record of function f at p, which is F, in bytes that end at e: its parts, one after the other
 pub record Parts (b : List ℕ) (e f p : ℕ) (F : Function) : Type 0 where
@@ -79,6 +71,7 @@ record-parts b e f p x h =
           body-read = ht ∙ ap (λ y. Ok (t .0, y)) stop;
         } in
         subst (λ (y : Function × ℕ). (s : Parts b e f p (y .0)) × (y .1 ≡ s .end)) is (R, stop)
+
     parts : (z s : ℕ) → s ≡ p + 2 → z ≡ p + 2 + half b p → z ≤ e → recordIn b z f p s ≡ Ok x → (s : Parts b e f p (x .0)) × (x .1 ≡ s .end)
     parts z s at long l h =
         let d = then-ok (rangeAt q.DepthLimit 0 7 b z f s) _ x h in

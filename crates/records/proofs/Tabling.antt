@@ -25,9 +25,8 @@ use Rattle.reader.proofs.Results.{then-ok, pass-ok, ok-same, made-ok}
 use Rattle.reader.proofs.Lists.{range-after}
 use Rattle.reader.proofs.Rows.{records-long}
 use Rattle.reader.proofs.WritesProgram.{ended-ok}
-use Rattle.rows.specs.Rows.{items}
 use Rattle.records.specs.declared.tables.Record.{Record}
-use Rattle.records.specs.Tables.{places, Says, Recorded}
+use Rattle.records.specs.Tables.{places, Recorded}
 use Rattle.records.specs.Glances.{Glance, glance, glanced, glanceAt, starts}
 use Rattle.records.proofs.Standing.{Parts, record-parts, glance-of, starts-are, Found, records-found}
 
@@ -133,11 +132,14 @@ recorded b P n i j ps r o h long standing l at k is =
     said (Ok r) F g s k =
         let m = ok-same (glance r) (record { depth = F .depth; params = F .params; results = F .results; body = s .results; end = s .end }) k in
         let body : r .body ≡ s .results = ap (λ (y : Glance). y .body) m in
-        let end : r .end ≡ s .end = ap (λ (y : Glance). y .end) m in
-        (F, g, record {
-          depth = ap (λ (y : Glance). y .depth) m;
-          params = ap (λ (y : Glance). y .params) m;
-          results = ap (λ (y : Glance). y .results) m;
-          body = (λ j. bodyAt b (end j) i 0 (body j)) ∙ s .body-read ∙ ap (λ z. Ok (F .body, z)) (sym end);
-          inside = omega (arith, s .inside);
-        })
+        let end : r .end ≡ s .end = ap (λ (y : Glance). y .end) m in (
+          F,
+          g,
+          record {
+            depth = ap (λ (y : Glance). y .depth) m;
+            params = ap (λ (y : Glance). y .params) m;
+            results = ap (λ (y : Glance). y .results) m;
+            body = (λ j. bodyAt b (end j) i 0 (body j)) ∙ s .body-read ∙ ap (λ z. Ok (F .body, z)) (sym end);
+            inside = omega (arith, s .inside);
+          },
+        )

@@ -1,5 +1,4 @@
 //! The records of a table.
-ghost use mathlib.Core.Path.{_≡_};
 ghost use Rattle.reader.specs.Syntax.{Program};
 ghost use Rattle.records.specs.Tables.{Stands, Recorded};
 use super::Record;
@@ -11,6 +10,7 @@ impl Table<'_> {
     pub fn record(&self, function: u8) -> Option<Record>
         ensures { λ r. ⌜ ((P : Program) → Stands (now (self .entry)) P → Recorded (now (now (self .entry) .program)) P function r) ⌝ }
     {
+        // Only the first bound ever decides for a program that reads; the second makes any table safe to ask.
         if function >= self.header.functions || function >= 64 {
             return None;
         }

@@ -1,5 +1,5 @@
 use borrow.Author.Needs.{needs}
-use mathlib.Core.Path.{_≡_, _∙_}
+use mathlib.Core.Path.{_∙_}
 use native.Mathlib.Omega.{arith}
 use Prim.Native.Nat.{_≤_}
 use lib.ListN.{length}
@@ -13,10 +13,11 @@ loop-i-holds c = let b = c .args .program .now in (starts-first b (length b) (c 
 pub loop-i-again : need.loop-i-again
 loop-i-again c =
     let b = c .args .program .now in
-    let l : c .args .count ≤ length (c .loop-i .places) = omega (arith, c .pre, c .loop-i .inv .1) in
-    (starts-step b (length b) (c .args .count) (c .loop-i .i) (c .from .result) (c .loop-i .place) (c .place-after-place .result) (c .loop-i .places) _
-    (omega arith) l (c .from .ensures) (c .place-after-place .ensures) (c .loop-i .inv .0),
-    length-set (c .loop-i .places) (c .from .result) (c .loop-i .place) ∙ c .loop-i .inv .1)
+    let l : c .args .count ≤ length (c .loop-i .places) = omega (arith, c .pre, c .loop-i .inv .1) in (
+      starts-step b (length b) (c .args .count) (c .loop-i .i) (c .from .result) (c .loop-i .place) (c .place-after-place .result) (c .loop-i .places) _
+          (omega arith) l (c .from .ensures) (c .place-after-place .ensures) (c .loop-i .inv .0),
+      length-set (c .loop-i .places) (c .from .result) (c .loop-i .place) ∙ c .loop-i .inv .1,
+    )
 
 pub returns : need.returns
 returns c =
