@@ -48,7 +48,8 @@ module _ (b : List ℕ) (e f : ℕ) where
             more = vs .0 .0;
             here = v .1;
             there = vs .1 ∙ ap (λ (y : List Operand × ℕ). Ok (vs .0 .0, y .1)) q;
-            is = sym (ap (λ (y : List Operand × ℕ). y .0) q) }
+            is = sym (ap (λ (y : List Operand × ℕ). y .0) q);
+          }
 
   -- after k values the rest is at p, the marks are H, and some variables were named
   pub record Going (count : ℕ) (wanted : List Ty) (k p z : ℕ) (H : Ctx) (named : List ℕ) (whole : Result Ctx Fault) : Type 0 where
@@ -59,7 +60,7 @@ module _ (b : List ℕ) (e f : ℕ) where
 
   abbrev pub Goes : (count start : ℕ) (wanted : List Ty) (H₀ : Ctx) (k p : ℕ) (H : Ctx) (named : List ℕ) → Type 0
   Goes count start wanted H₀ k p H named =
-    (vs : List Operand) (z : ℕ) → valuesAt b e f count start ≡ Ok (vs, z) → length wanted ≡ count → Going count wanted k p z H named (gives f H₀ [] vs wanted)
+      (vs : List Operand) (z : ℕ) → valuesAt b e f count start ≡ Ok (vs, z) → length wanted ≡ count → Going count wanted k p z H named (gives f H₀ [] vs wanted)
 
   pub goes-first : (count start : ℕ) (wanted : List Ty) (H₀ : Ctx) (named : List ℕ) → named ≡ [] → Goes count start wanted H₀ 0 start H₀ named
   goes-first count start wanted H₀ named none vs z h l =
@@ -67,16 +68,17 @@ module _ (b : List ℕ) (e f : ℕ) where
         rest = vs;
         reads = ap (λ m. valuesAt b e f m start) (omega arith) ∙ h;
         leads = ap (λ ns. gives f H₀ ns vs wanted) none;
-        few = omega (arith, ap length none) }
+        few = omega (arith, ap length none);
+      }
 
   module _ (count start : ℕ) (wanted : List Ty) (H₀ : Ctx) (k p : ℕ) (H : Ctx) (named : List ℕ) (g : Goes count start wanted H₀ k p H named) where
     -- one value more
     pub goes-next : (value : Value) (next : ℕ) (ty : Ty) (H′ : Ctx) (named′ : List ℕ) → k < count → length wanted ≤ 8
-      → Ok (value, next) ≡ valueAt b e f p → Some ty ≡ nth wanted k
-      → Ok H′ ≡ give f H named (record { place = p; value = value }) ty
-      → (length named < 8 → named′ ≡ note value named)
-      → length named′ ≤ length named + 1
-      → Goes count start wanted H₀ (k + 1) next H′ named′
+        → Ok (value, next) ≡ valueAt b e f p → Some ty ≡ nth wanted k
+        → Ok H′ ≡ give f H named (record { place = p; value = value }) ty
+        → (length named < 8 → named′ ≡ note value named)
+        → length named′ ≤ length named + 1
+        → Goes count start wanted H₀ (k + 1) next H′ named′
     goes-next value next ty H′ named′ l few v w gave noted grown vs z h q =
         let i = g vs z h q in
         let o = first-of count k p z (i .rest) l (i .reads) in
@@ -86,19 +88,20 @@ module _ (b : List ℕ) (e f : ℕ) where
           rest = o .more;
           reads = ap (λ (y : Value × ℕ). valuesAt b e f (count - (k + 1)) (y .1)) (sym same) ∙ o .there;
           leads =
-            ap (λ ns. gives f H′ ns (o .more) (drop (k + 1) wanted)) n
-            ∙ ap (λ r. then r (λ X. gives f X (note value named) (o .more) (drop (k + 1) wanted))) gave
-            ∙ ap (λ (y : Value × ℕ). then (give f H named (record { place = p; value = y .0 }) ty) (λ X. gives f X (note (y .0) named) (o .more) (drop (k + 1) wanted))) (sym same)
-            ∙ ap (gives f H named (record { place = p; value = o .value } ∷ o .more)) (sym (drop-nth wanted k ty (sym w)))
-            ∙ ap (λ rs. gives f H named rs (drop k wanted)) (sym (o .is))
-            ∙ i .leads;
-          few = omega (arith, i .few) }
+              ap (λ ns. gives f H′ ns (o .more) (drop (k + 1) wanted)) n
+              ∙ ap (λ r. then r (λ X. gives f X (note value named) (o .more) (drop (k + 1) wanted))) gave
+              ∙ ap (λ (y : Value × ℕ). then (give f H named (record { place = p; value = y .0 }) ty) (λ X. gives f X (note (y .0) named) (o .more) (drop (k + 1) wanted))) (sym same)
+              ∙ ap (gives f H named (record { place = p; value = o .value } ∷ o .more)) (sym (drop-nth wanted k ty (sym w)))
+              ∙ ap (λ rs. gives f H named rs (drop k wanted)) (sym (o .is))
+              ∙ i .leads;
+          few = omega (arith, i .few);
+        }
 
     -- a fault of one value is the fault of all
     pub goes-fault : (value : Value) (next : ℕ) (ty : Ty) (x : Fault) → k < count
-      → Ok (value, next) ≡ valueAt b e f p → Some ty ≡ nth wanted k
-      → Err x ≡ give f H named (record { place = p; value = value }) ty
-      → (vs : List Operand) (z : ℕ) → valuesAt b e f count start ≡ Ok (vs, z) → length wanted ≡ count → Err x ≡ gives f H₀ [] vs wanted
+        → Ok (value, next) ≡ valueAt b e f p → Some ty ≡ nth wanted k
+        → Err x ≡ give f H named (record { place = p; value = value }) ty
+        → (vs : List Operand) (z : ℕ) → valuesAt b e f count start ≡ Ok (vs, z) → length wanted ≡ count → Err x ≡ gives f H₀ [] vs wanted
     goes-fault value next ty x l v w gave vs z h q =
         let i = g vs z h q in
         let o = first-of count k p z (i .rest) l (i .reads) in
@@ -111,7 +114,7 @@ module _ (b : List ℕ) (e f : ℕ) where
 
     -- a value that is left can be read, and a type is wanted for it
     pub goes-reads : (x : Fault) → k < count → Err x ≡ valueAt b e f p
-      → (vs : List Operand) (z : ℕ) → valuesAt b e f count start ≡ Ok (vs, z) → length wanted ≡ count → ⊥
+        → (vs : List Operand) (z : ℕ) → valuesAt b e f count start ≡ Ok (vs, z) → length wanted ≡ count → ⊥
     goes-reads x l r vs z h q =
         let i = g vs z h q in
         let o = first-of count k p z (i .rest) l (i .reads) in

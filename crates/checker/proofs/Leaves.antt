@@ -22,8 +22,9 @@ use Rattle.checker.specs.Walks.{seen}
 
 pub seen-variable : (H : Ctx) (x : ℕ) → nth H x ≡ seen H (variable x)
 seen-variable H x = elim (cases-lt x (length H)) [
-    inl l ↦ nth-at H x absent l ∙ sym (ap (λ b. elim b [ true ↦ Some (entry H (variable x)) | false ↦ None ]) (lt-ltb x (length H) l))
-  | inr l ↦ nth-past H x l ∙ sym (ap (λ b. elim b [ true ↦ Some (entry H (variable x)) | false ↦ None ]) (le-ltb x (length H) l)) ]
+  | inl l ↦ nth-at H x absent l ∙ sym (ap (λ b. elim b [ true ↦ Some (entry H (variable x)) | false ↦ None ]) (lt-ltb x (length H) l))
+  | inr l ↦ nth-past H x l ∙ sym (ap (λ b. elim b [ true ↦ Some (entry H (variable x)) | false ↦ None ]) (le-ltb x (length H) l))
+]
 
 -- what is left of a list from a place on
 pub drop-nth : {X : Type 0} (xs : List X) (i : ℕ) (x : X) → nth xs i ≡ Some x → drop i xs ≡ x ∷ drop (i + 1) xs

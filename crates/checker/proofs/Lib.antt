@@ -6,3 +6,4 @@ pub mod Paths
 pub mod Places
 pub mod Aliases
 pub mod Each
+pub mod Verdicts

@@ -56,9 +56,15 @@ module _ (b : List ℕ) (e f : ℕ) where
   type-after p x h =
       let n = then-ok (byteAt b e f p) _ x h in
       let m = byte-after b e f p (n .0) (n .1) in
-      elim (which (eqb (n .0 .0) 1) _ _ (Ok x) (n .2)) [ inl k ↦ at _ (n .0 .1) m (k .1) | inr k ↦
-      elim (which (eqb (n .0 .0) 2) _ _ (Ok x) (k .1)) [ inl k ↦ at _ (n .0 .1) m (k .1) | inr k ↦
-      elim (which (eqb (n .0 .0) 3) _ _ (Ok x) (k .1)) [ inl k ↦ at _ (n .0 .1) m (k .1) | inr k ↦ at _ (n .0 .1) m (pass-ok (eqb (n .0 .0) 4) _ _ x (k .1) .1) ] ] ]
+      elim (which (eqb (n .0 .0) 1) _ _ (Ok x) (n .2)) [
+        | inl k ↦ at _ (n .0 .1) m (k .1)
+        | inr k ↦
+            elim (which (eqb (n .0 .0) 2) _ _ (Ok x) (k .1)) [
+              | inl k ↦ at _ (n .0 .1) m (k .1)
+              | inr k ↦
+                  elim (which (eqb (n .0 .0) 3) _ _ (Ok x) (k .1)) [ inl k ↦ at _ (n .0 .1) m (k .1) | inr k ↦ at _ (n .0 .1) m (pass-ok (eqb (n .0 .0) 4) _ _ x (k .1) .1) ]
+            ]
+      ]
     where
       at : (u : Ty) (z : ℕ) → z ≡ p + 1 → _≡_ {A = Read Ty} (Ok (u, z)) (Ok x) → x .1 ≡ p + 1
       at u z m k = sym (ap (λ (y : Ty × ℕ). y .1) (ok-same (u, z) x k)) ∙ m

@@ -52,20 +52,21 @@ module _ (b : List ℕ) (e f : ℕ) where
   module _ (count start first k p : ℕ) (g : Trails count start first k p) where
     -- the next of the values that are left, with what it says of them all
     step : (value : Value) (next : ℕ) → k < count → Ok (value, next) ≡ valueAt b e f p → (vs : List Operand) (z : ℕ) → valuesAt b e f count start ≡ Ok (vs, z)
-      → (more : List Operand) × (valuesAt b e f (count - (k + 1)) next ≡ Ok (more, z)) × (is-variable (first + k) value && consecutive (first + (k + 1)) (count - (k + 1)) more ≡ consecutive first count vs)
+        → (more : List Operand) × (valuesAt b e f (count - (k + 1)) next ≡ Ok (more, z)) × (is-variable (first + k) value && consecutive (first + (k + 1)) (count - (k + 1)) more ≡ consecutive first count vs)
     step value next l v vs z h =
         let i = g vs z h in
         let o = first-of b e f count k p z (i .rest) l (i .reads) in
         let same = ok-same (o .value, o .next) (value, next) (sym (o .here) ∙ sym v) in
         let s : count - k ≡ suc (count - (k + 1)) = omega arith in
-        let t : first + (k + 1) ≡ suc (first + k) = omega arith in
-        (o .more,
+        let t : first + (k + 1) ≡ suc (first + k) = omega arith in (
+          o .more,
           ap (λ (y : Value × ℕ). valuesAt b e f (count - (k + 1)) (y .1)) (sym same) ∙ o .there,
           ap (λ m. is-variable (first + k) value && consecutive m (count - (k + 1)) (o .more)) t
-          ∙ ap (λ (y : Value × ℕ). is-variable (first + k) (y .0) && consecutive (suc (first + k)) (count - (k + 1)) (o .more)) (sym same)
-          ∙ ap (λ m. consecutive (first + k) m (record { place = p; value = o .value } ∷ o .more)) (sym s)
-          ∙ ap (consecutive (first + k) (count - k)) (sym (o .is))
-          ∙ i .leads)
+              ∙ ap (λ (y : Value × ℕ). is-variable (first + k) (y .0) && consecutive (suc (first + k)) (count - (k + 1)) (o .more)) (sym same)
+              ∙ ap (λ m. consecutive (first + k) m (record { place = p; value = o .value } ∷ o .more)) (sym s)
+              ∙ ap (consecutive (first + k) (count - k)) (sym (o .is))
+              ∙ i .leads,
+        )
 
     pub trails-next : (value : Value) (next : ℕ) → k < count → Ok (value, next) ≡ valueAt b e f p → is-variable (first + k) value ≡ true → Trails count start first (k + 1) next
     trails-next value next l v is vs z h =
@@ -73,7 +74,7 @@ module _ (b : List ℕ) (e f : ℕ) where
         record { rest = s .0; reads = s .1; leads = ap (λ t. t && consecutive (first + (k + 1)) (count - (k + 1)) (s .0)) (sym is) ∙ s .2 }
 
     pub trails-other : (value : Value) (next : ℕ) → k < count → Ok (value, next) ≡ valueAt b e f p → is-variable (first + k) value ≡ false
-      → (vs : List Operand) (z : ℕ) → valuesAt b e f count start ≡ Ok (vs, z) → false ≡ consecutive first count vs
+        → (vs : List Operand) (z : ℕ) → valuesAt b e f count start ≡ Ok (vs, z) → false ≡ consecutive first count vs
     trails-other value next l v is vs z h =
         let s = step value next l v vs z h in
         ap (λ t. t && consecutive (first + (k + 1)) (count - (k + 1)) (s .0)) (sym is) ∙ s .2
@@ -93,20 +94,20 @@ module _ (b : List ℕ) (e f : ℕ) where
 
   -- a node other than a return follows no tail call, and a return with other counts none either
   pub tail-other : (ifs first j p next : ℕ) (t : Body × ℕ) (x : Node) → bodyAt b e f ifs p ≡ Ok t → Ok (x, next) ≡ sight p (nodeAt b e f ifs p)
-    → ((vs : Values) → ¬ (x ≡ node.Return vs)) → false ≡ is-tail first j (t .0)
+      → ((vs : Values) → ¬ (x ≡ node.Return vs)) → false ≡ is-tail first j (t .0)
   tail-other ifs first j p next t (node.Return vs) h k no-return = absurd (no-return vs refl)
   tail-other ifs first j p next t (node.Branch v field n) h k no-return = ap (λ (y : Body × ℕ). is-tail first j (y .0)) (sym (parts b e f ifs p t (node.Branch v field n, next) h k .is))
   tail-other ifs first j p next t (node.Call o vs n) h k no-return = ap (λ (y : Body × ℕ). is-tail first j (y .0)) (sym (parts b e f ifs p t (node.Call o vs n, next) h k .is))
 
   pub tail-counts : (ifs first j p next : ℕ) (t : Body × ℕ) (vs : Values) → bodyAt b e f ifs p ≡ Ok t → Ok (node.Return vs, next) ≡ sight p (nodeAt b e f ifs p)
-    → ¬ (vs .count ≡ j) → false ≡ is-tail first j (t .0)
+      → ¬ (vs .count ≡ j) → false ≡ is-tail first j (t .0)
   tail-counts ifs first j p next t vs h k other =
       let r = parts b e f ifs p t (node.Return vs, next) h k in
       sym (ap (λ (y : Body × ℕ). is-tail first j (y .0)) (r .is) ∙ consecutive-long first j (r .operands) (λ q. other (sym (r .long) ∙ q)))
 
   pub tail-return : (ifs first j p next : ℕ) (t : Body × ℕ) (vs : Values) (answer : Bool) → bodyAt b e f ifs p ≡ Ok t → Ok (node.Return vs, next) ≡ sight p (nodeAt b e f ifs p)
-    → vs .count ≡ j → ((us : List Operand) (z : ℕ) → valuesAt b e f (vs .count) (vs .place) ≡ Ok (us, z) → answer ≡ consecutive first (vs .count) us)
-    → answer ≡ is-tail first j (t .0)
+      → vs .count ≡ j → ((us : List Operand) (z : ℕ) → valuesAt b e f (vs .count) (vs .place) ≡ Ok (us, z) → answer ≡ consecutive first (vs .count) us)
+      → answer ≡ is-tail first j (t .0)
   tail-return ifs first j p next t vs answer h k same tells =
       let r = parts b e f ifs p t (node.Return vs, next) h k in
       tells (r .operands) next (r .reads) ∙ ap (λ m. consecutive first m (r .operands)) same ∙ ap (λ (y : Body × ℕ). is-tail first j (y .0)) (sym (r .is))

@@ -32,7 +32,7 @@ use Rattle.checker.specs.Walks.{leaving, binding, entering}
 
 -- a return whose count is right goes on with its values
 pub leaving-is : (i p : ℕ) (H : Ctx) (vs : List Operand) (τs : List Ty) (r : Result Ctx Fault) → length vs ≡ length τs → r ≡ gives i H [] vs τs
-  → then r (λ H′. ask q.OwnersSpent i p (all-spent H′)) ≡ leaving i p H vs τs
+    → then r (λ H′. ask q.OwnersSpent i p (all-spent H′)) ≡ leaving i p H vs τs
 leaving-is i p H vs τs r l h =
     ap (λ x. then x (λ H′. ask q.OwnersSpent i p (all-spent H′))) h
     ∙ sym (ap (λ b. then (ask q.Counts i p b) (λ _. then (gives i H [] vs τs) (λ H′. ask q.OwnersSpent i p (all-spent H′)))) (eq-eqb (length vs) (length τs) l))

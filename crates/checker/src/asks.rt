@@ -76,7 +76,13 @@ impl Marks {
     }
 
     /// Puts the questions about one value that is given where a type is wanted.
-    pub(crate) fn give(&mut self, function: u8, named: &Row<u8, 8>, operand: Operand, wanted: Ty) -> Result<(), Fault>
+    pub(crate) fn give(
+        &mut self,
+        function: u8,
+        named: &Row<u8, 8>,
+        operand: Operand,
+        wanted: Ty,
+    ) -> Result<(), Fault>
         ensures { λ r. ⌜ changed r (now (self .exit)) ≡ give function (context (now (self .entry))) (items (now (named .entry))) operand wanted ⌝ }
     {
         let Some(entry) = self.seen(operand.value) else {

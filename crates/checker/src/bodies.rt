@@ -34,8 +34,18 @@ impl Walk<'_> {
                 *marks = before;
                 self.body(marks, ifs + 1, second)
             }
-            Node::Call { operation, arguments, results } => {
-                let call = Call { place, operation, arguments, results, next };
+            Node::Call {
+                operation,
+                arguments,
+                results,
+            } => {
+                let call = Call {
+                    place,
+                    operation,
+                    arguments,
+                    results,
+                    next,
+                };
                 self.enter(marks, ifs, call)?;
                 self.body(marks, ifs, next)
             }

@@ -38,7 +38,11 @@ fn first_alias(types: &Row<Ty, 8>) -> Option<usize>
 fn place_of(table: &Table, function: u8) -> usize
     ensures { λ r. ⌜ (function < 64 → r ≡ getD (now (table .entry) .places) function 0) ⌝ }
 {
-    if function < 64 { table.places[usize::from(function)] } else { 0 }
+    if function < 64 {
+        table.places[usize::from(function)]
+    } else {
+        0
+    }
 }
 
 /// Whether a record's function takes and gives nothing.
@@ -56,7 +60,11 @@ pub(crate) fn outside(table: &Table, function: u8) -> Result<(), Fault>
         return Ok(());
     };
     if function < table.header.threads && !is_bare(&record) {
-        return Err(Fault::new(Question::ThreadSignature, function, place_of(table, function)));
+        return Err(Fault::new(
+            Question::ThreadSignature,
+            function,
+            place_of(table, function),
+        ));
     }
     match first_alias(&record.results) {
         None => Ok(()),
@@ -75,9 +83,20 @@ pub(crate) fn inside(table: &Table, function: u8) -> Result<(), Fault>
         return Ok(());
     };
     let end = record.end.min(table.program.len());
-    let window = Window { bytes: table.program, end, function };
-    let walk = Walk { table: *table, window, depth: record.depth, results: record.results };
-    let mut marks = Marks { entries: Row::new(Entry::Absent) };
+    let window = Window {
+        bytes: table.program,
+        end,
+        function,
+    };
+    let walk = Walk {
+        table: *table,
+        window,
+        depth: record.depth,
+        results: record.results,
+    };
+    let mut marks = Marks {
+        entries: Row::new(Entry::Absent),
+    };
     marks.bind_all(&record.params);
     walk.body(&mut marks, 0, record.body)?;
     Ok(())

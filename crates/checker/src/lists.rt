@@ -32,7 +32,12 @@ fn note(named: &mut Row<u8, 8>, value: Value)
 }
 
 /// Puts the questions about a list of values, from the left, where as many types are wanted.
-pub(crate) fn give_all(window: &Window, marks: &mut Marks, values: Values, wanted: &Row<Ty, 8>) -> Result<(), Fault>
+pub(crate) fn give_all(
+    window: &Window,
+    marks: &mut Marks,
+    values: Values,
+    wanted: &Row<Ty, 8>,
+) -> Result<(), Fault>
     ensures { λ r. ⌜ ((vs : List Placed) (z : ℕ) → In (now (window .entry)) valuesAt (values .count) (values .place) ≡ Ok (vs, z) → length (items (now (wanted .entry))) ≡ values .count → changed r (now (marks .exit)) ≡ gives (now (window .entry) .function) (context (now (marks .entry))) [] vs (items (now (wanted .entry)))) ⌝ }
 {
     let mut named = Row::new(0);

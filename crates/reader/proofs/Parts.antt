@@ -45,22 +45,26 @@ module _ (b : List ℕ) (e f : ℕ) where
       let t = then-ok (byteAt b e f p) _ h k in
       let one = byte-after b e f p (t .0) (t .1) in
       elim (which (eqb (t .0 .0) 1) _ _ (Ok h) (t .2)) [
-        inl k ↦ return-at (t .0 .1) one (k .1)
-      | inr k ↦ elim (which (eqb (t .0 .0) 2) _ _ (Ok h) (k .1)) [
-        inl k ↦ if-at (t .0 .1) (k .1)
-      | inr k ↦ call-at (t .0 .1) one (pass-ok (eqb (t .0 .0) 3) _ _ h (k .1) .1) ] ]
+        | inl k ↦ return-at (t .0 .1) one (k .1)
+        | inr k ↦ elim (which (eqb (t .0 .0) 2) _ _ (Ok h) (k .1)) [
+          | inl k ↦ if-at (t .0 .1) (k .1)
+          | inr k ↦ call-at (t .0 .1) one (pass-ok (eqb (t .0 .0) 3) _ _ h (k .1) .1)
+        ]
+      ]
     where
       return-at : (z : ℕ) → z ≡ p + 1 → then (listAt b e f z) (λ a. Ok (returns (a .0), a .1)) ≡ Ok h → Heading p h
       return-at z one k =
           let a = then-ok (listAt b e f z) _ h k in
           let two : z + 1 ≡ p + 2 = omega arith in
           subst (Heading p) (ok-same (returns (a .0 .0), a .0 .1) h (a .2)) (ap (valuesAt b e f (length (a .0 .0))) (sym two) ∙ list-at z (a .0) (a .1))
+
       if-at : (z : ℕ) → ifAt b e f ifs p z ≡ Ok h → Heading p h
       if-at z k =
           let i = shun-ok (leb 16 ifs) _ _ h k in
           let v = then-ok (valueAt b e f z) _ h (i .1) in
           let n = then-ok (halfAt b e f (v .0 .1)) _ h (v .2) in
           subst (Heading p) (ok-same (branches (record { place = z; value = v .0 .0 }) (v .0 .1) (n .0 .0), n .0 .1) h (n .2)) tt
+
       call-at : (z : ℕ) → z ≡ p + 1 → callAt b e f z ≡ Ok h → Heading p h
       call-at z one k =
           let m = then-ok (byteAt b e f z) _ h k in
@@ -69,7 +73,7 @@ module _ (b : List ℕ) (e f : ℕ) where
           let n = then-ok (countAt b e f (a .0 .1)) _ h (a .2) in
           let four : i .0 .1 + 1 ≡ p + 4 = omega (arith, byte-after b e f z (m .0) (m .1), byte-after b e f (m .0 .1) (i .0) (i .1)) in
           subst (Heading p) (ok-same (calls (operation (m .0 .0) (i .0 .0)) (a .0 .0) (n .0 .0), n .0 .1) h (n .2))
-            (a .0 .1, ap (valuesAt b e f (length (a .0 .0))) (sym four) ∙ list-at (i .0 .1) (a .0) (a .1))
+          (a .0 .1, ap (valuesAt b e f (length (a .0 .0))) (sym four) ∙ list-at (i .0 .1) (a .0) (a .1))
 
   pub record ReturnParts (p next : ℕ) (t : Body × ℕ) (vs : Values) : Type 0 where
     pub operands : List Operand

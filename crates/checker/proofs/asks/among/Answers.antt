@@ -15,8 +15,9 @@ pub loop-i-again : need.loop-i-again
 loop-i-again c =
     let ys = items (c .args .named .now) in
     elim (c .match-get .came) [
-      in-Some·else-x-y w ↦ sym (member-next (c .args .x) (c .loop-i .i) ys (w .in-Some .y) (sym (w .in-Some .ensures tt)) (w .if-x-y .left)) ∙ c .loop-i .inv
-    | in-rest w ↦ absurd (nth-none ys (c .loop-i .i) (sym (w .in-rest .ensures tt)) (omega arith)) ]
+      | in-Some·else-x-y w ↦ sym (member-next (c .args .x) (c .loop-i .i) ys (w .in-Some .y) (sym (w .in-Some .ensures tt)) (w .if-x-y .left)) ∙ c .loop-i .inv
+      | in-rest w ↦ absurd (nth-none ys (c .loop-i .i) (sym (w .in-rest .ensures tt)) (omega arith))
+    ]
 
 pub returns : need.returns
 returns c = sym (ap (member (c .args .x)) (drop-end (items (c .args .named .now)) (c .loop-i .i) (omega arith))) ∙ c .loop-i .inv

@@ -18,8 +18,9 @@ pub loop-i-again : need.loop-i-again
 loop-i-again c =
     let ts = items (c .args .types .now) in
     elim (c .match-get .came) [
-      in-Some·in-rest-ty w ↦ passes-next ts (c .loop-i .i) (w .in-Some .ty) (c .loop-i .inv) (sym (w .in-Some .ensures tt)) (w .in-rest-ty .not-Alias)
-    | in-rest w ↦ absurd (nth-none ts (c .loop-i .i) (sym (w .in-rest .ensures tt)) (omega arith)) ]
+      | in-Some·in-rest-ty w ↦ passes-next ts (c .loop-i .i) (w .in-Some .ty) (c .loop-i .inv) (sym (w .in-Some .ensures tt)) (w .in-rest-ty .not-Alias)
+      | in-rest w ↦ absurd (nth-none ts (c .loop-i .i) (sym (w .in-rest .ensures tt)) (omega arith))
+    ]
 
 pub returns : need.returns
 returns c = passes-all (items (c .args .types .now)) (c .loop-i .i) (c .loop-i .inv) (omega arith)

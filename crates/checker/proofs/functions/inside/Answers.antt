@@ -33,9 +33,9 @@ returns-in-Break-body c P F s h =
     let e : c .min-end .result ≡ r .end = omega (arith, y .inside, c .min-end .ensures) in
     let x : c .from-residual .result ≡ Err (c .in-Break-body .field-0 .0) = search needs in
     x ∙ inside-is P (c .args .function) F (context (c .bind-all .last .self)) (r .end) (Err (c .in-Break-body .field-0 .0))
-      (c .in-Break-body .ensures tt .answer P F (F .body, r .end) (record { stands = s; bytes = refl; function = h; depth = y .depth; results = y .results })
-        (ap (λ z. bodyAt b z (c .args .function) 0 (r .body)) e ∙ y .body))
-      (marks (context (c .bind-all .last .self)) (items (c .new .result)) (items (r .params)) (F .params) (c .new .ensures) (omega (arith, row-len (r .params), r .params .fits)) (c .bind-all .ensures) (y .params))
+    (c .in-Break-body .ensures tt .answer P F (F .body, r .end) (record { stands = s; bytes = refl; function = h; depth = y .depth; results = y .results })
+    (ap (λ z. bodyAt b z (c .args .function) 0 (r .body)) e ∙ y .body))
+    (marks (context (c .bind-all .last .self)) (items (c .new .result)) (items (r .params)) (F .params) (c .new .ensures) (omega (arith, row-len (r .params), r .params .fits)) (c .bind-all .ensures) (y .params))
 
 pub returns : need.returns
 returns c P F s h =
@@ -44,6 +44,6 @@ returns c P F s h =
     let y = says-of b P (c .args .function) F r (c .in-Some .ensures tt P s) h in
     let e : c .min-end .result ≡ r .end = omega (arith, y .inside, c .min-end .ensures) in
     inside-is P (c .args .function) F (context (c .bind-all .last .self)) (r .end) (Ok (c .in-Continue-body .field-0))
-      (c .in-Continue-body .ensures tt .answer P F (F .body, r .end) (record { stands = s; bytes = refl; function = h; depth = y .depth; results = y .results })
-        (ap (λ z. bodyAt b z (c .args .function) 0 (r .body)) e ∙ y .body))
-      (marks (context (c .bind-all .last .self)) (items (c .new .result)) (items (r .params)) (F .params) (c .new .ensures) (omega (arith, row-len (r .params), r .params .fits)) (c .bind-all .ensures) (y .params))
+    (c .in-Continue-body .ensures tt .answer P F (F .body, r .end) (record { stands = s; bytes = refl; function = h; depth = y .depth; results = y .results })
+    (ap (λ z. bodyAt b z (c .args .function) 0 (r .body)) e ∙ y .body))
+    (marks (context (c .bind-all .last .self)) (items (c .new .result)) (items (r .params)) (F .params) (c .new .ensures) (omega (arith, row-len (r .params), r .params .fits)) (c .bind-all .ensures) (y .params))

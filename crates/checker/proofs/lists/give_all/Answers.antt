@@ -18,7 +18,7 @@ pub returns-in-Break-value : need.returns-in-Break-value
 returns-in-Break-value c vs z h q =
     let w = c .args .window .now in
     absurd (goes-reads (w .bytes .now) (w .end) (w .function) (c .args .values .count) (c .args .values .place) (items (c .args .wanted .now)) (context (c .args .marks .now)) (c .loop-k .k) (c .loop-k .place) (context (c .loop-k .marks)) (items (c .loop-k .named)) (c .loop-k .inv)
-      (c .in-Break-value .field-0 .0) (omega arith) (c .in-Break-value .ensures tt .reads) vs z h q)
+    (c .in-Break-value .field-0 .0) (omega arith) (c .in-Break-value .ensures tt .reads) vs z h q)
 
 pub returns-in-rest : need.returns-in-rest
 returns-in-rest c vs z h q =
@@ -30,19 +30,19 @@ returns-in-Break-give c vs z h q =
     let e : c .from-residual-in-Break-give .result ≡ Err (c .in-Break-give .field-0 .0) = search needs in
     ap (λ r. changed r (c .give .last .self)) e
     ∙ goes-fault (w .bytes .now) (w .end) (w .function) (c .args .values .count) (c .args .values .place) (items (c .args .wanted .now)) (context (c .args .marks .now)) (c .loop-k .k) (c .loop-k .place) (context (c .loop-k .marks)) (items (c .loop-k .named)) (c .loop-k .inv)
-      (c .in-Continue-value .value) (c .in-Continue-value .next) (c .in-Some .ty) (c .in-Break-give .field-0 .0) (omega arith)
-      (c .in-Continue-value .ensures tt .reads) (c .in-Some .ensures tt ∙ ap (nth (items (c .args .wanted .now))) (c .from .ensures)) (c .in-Break-give .ensures tt) vs z h q
+    (c .in-Continue-value .value) (c .in-Continue-value .next) (c .in-Some .ty) (c .in-Break-give .field-0 .0) (omega arith)
+    (c .in-Continue-value .ensures tt .reads) (c .in-Some .ensures tt ∙ ap (nth (items (c .args .wanted .now))) (c .from .ensures)) (c .in-Break-give .ensures tt) vs z h q
 
 pub loop-k-again : need.loop-k-again
 loop-k-again c =
     let w = c .args .window .now in
     goes-next (w .bytes .now) (w .end) (w .function) (c .args .values .count) (c .args .values .place) (items (c .args .wanted .now)) (context (c .args .marks .now)) (c .loop-k .k) (c .loop-k .place) (context (c .loop-k .marks)) (items (c .loop-k .named)) (c .loop-k .inv)
-      (c .in-Continue-value .value) (c .in-Continue-value .next) (c .in-Some .ty) (context (c .give .last .self)) (items (c .note .last .named)) (omega arith) (omega (arith, row-len (c .args .wanted .now), c .args .wanted .now .fits))
-      (c .in-Continue-value .ensures tt .reads) (c .in-Some .ensures tt ∙ ap (nth (items (c .args .wanted .now))) (c .from .ensures)) (c .in-Continue-give .ensures tt)
-      (c .note .ensures .noted) (c .note .ensures .grown)
+    (c .in-Continue-value .value) (c .in-Continue-value .next) (c .in-Some .ty) (context (c .give .last .self)) (items (c .note .last .named)) (omega arith) (omega (arith, row-len (c .args .wanted .now), c .args .wanted .now .fits))
+    (c .in-Continue-value .ensures tt .reads) (c .in-Some .ensures tt ∙ ap (nth (items (c .args .wanted .now))) (c .from .ensures)) (c .in-Continue-give .ensures tt)
+    (c .note .ensures .noted) (c .note .ensures .grown)
 
 pub returns : need.returns
 returns c vs z h q =
     let w = c .args .window .now in
     goes-last (w .bytes .now) (w .end) (w .function) (c .args .values .count) (c .args .values .place) (items (c .args .wanted .now)) (context (c .args .marks .now)) (c .loop-k .k) (c .loop-k .place) (context (c .loop-k .marks)) (items (c .loop-k .named)) (c .loop-k .inv)
-      (omega arith) vs z h q
+    (omega arith) vs z h q

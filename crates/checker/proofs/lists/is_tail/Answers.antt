@@ -21,10 +21,10 @@ pub returns-then-values-results : need.returns-then-values-results
 returns-then-values-results c t h =
     let w = c .args .window .now in
     tail-counts (w .bytes .now) (w .end) (w .function) (c .args .ifs) (c .args .first) (c .args .results) (c .args .place) (c .in-Ok .field-0-1) t (c .in-Return .values) h
-      (ap (λ (n : Node). Ok (n, c .in-Ok .field-0-1)) (sym (c .in-Return .is)) ∙ c .in-Ok .ensures tt .reads) (c .if-values-results .taken)
+    (ap (λ (n : Node). Ok (n, c .in-Ok .field-0-1)) (sym (c .in-Return .is)) ∙ c .in-Ok .ensures tt .reads) (c .if-values-results .taken)
 
 pub returns : need.returns
 returns c t h =
     let w = c .args .window .now in
     tail-return (w .bytes .now) (w .end) (w .function) (c .args .ifs) (c .args .first) (c .args .results) (c .args .place) (c .in-Ok .field-0-1) t (c .in-Return .values) (c .consecutive .result) h
-      (ap (λ (n : Node). Ok (n, c .in-Ok .field-0-1)) (sym (c .in-Return .is)) ∙ c .in-Ok .ensures tt .reads) (c .if-values-results .left) (c .consecutive .ensures)
+    (ap (λ (n : Node). Ok (n, c .in-Ok .field-0-1)) (sym (c .in-Return .is)) ∙ c .in-Ok .ensures tt .reads) (c .if-values-results .left) (c .consecutive .ensures)

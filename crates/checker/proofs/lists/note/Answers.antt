@@ -13,4 +13,5 @@ returns-in-Variable c =
     let x = c .in-Variable .x in
     record {
       noted = λ l. pushed-room xs ys x 8 (c .push .result) (c .push .ensures .room) (c .push .ensures .after) l ∙ ap (λ v. note v xs) (sym (c .in-Variable .is));
-      grown = pushed-long xs ys x (c .push .result) (c .push .ensures .after) }
+      grown = pushed-long xs ys x (c .push .result) (c .push .ensures .after);
+    }

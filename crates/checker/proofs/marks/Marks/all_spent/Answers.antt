@@ -15,8 +15,9 @@ pub loop-i-again : need.loop-i-again
 loop-i-again c =
     let H = context (c .args .self .now) in
     elim (c .match-get .came) [
-      in-Some·else-is-owner w ↦ sym (owner-next (c .loop-i .i) H (w .in-Some .entry) (sym (w .in-Some .ensures tt)) (search needs)) ∙ c .loop-i .inv
-    | in-rest w ↦ absurd (nth-none H (c .loop-i .i) (sym (w .in-rest .ensures tt)) (omega arith)) ]
+      | in-Some·else-is-owner w ↦ sym (owner-next (c .loop-i .i) H (w .in-Some .entry) (sym (w .in-Some .ensures tt)) (search needs)) ∙ c .loop-i .inv
+      | in-rest w ↦ absurd (nth-none H (c .loop-i .i) (sym (w .in-rest .ensures tt)) (omega arith))
+    ]
 
 pub returns : need.returns
 returns c = sym (ap all-spent (drop-end (context (c .args .self .now)) (c .loop-i .i) (omega arith))) ∙ c .loop-i .inv

@@ -22,12 +22,13 @@ loop-i-again c room =
     let H₀ = context (c .args .self .now) in
     let H = context (c .loop-i .self) in
     elim (c .match-get .came) [
-      in-Some w ↦
-        let t = w .in-Some .ty in
-        let free = bound-room H₀ H ts (c .loop-i .i) (c .loop-i .inv room) (omega arith) room in
-        bound-more H₀ H (context (c .match-get .self)) ts (c .loop-i .i) t (c .loop-i .inv room) (sym (w .in-Some .ensures tt))
+      | in-Some w ↦
+          let t = w .in-Some .ty in
+          let free = bound-room H₀ H ts (c .loop-i .i) (c .loop-i .inv room) (omega arith) room in
+          bound-more H₀ H (context (c .match-get .self)) ts (c .loop-i .i) t (c .loop-i .inv room) (sym (w .in-Some .ensures tt))
           (ap context (w .self-is) ∙ pushed-room H (items (w .push .last .self)) (Has t) 16 (w .push .result) (w .push .ensures .room) (w .push .ensures .after) free)
-    | in-rest w ↦ absurd (nth-none ts (c .loop-i .i) (sym (w .in-rest .ensures tt)) (omega arith)) ]
+      | in-rest w ↦ absurd (nth-none ts (c .loop-i .i) (sym (w .in-rest .ensures tt)) (omega arith))
+    ]
 
 pub returns : need.returns
 returns c room =

@@ -17,7 +17,7 @@ returns-in-Break-give-all c P vs z t S h l k =
     let e : c .from-residual .result ≡ Err (c .in-Break-give-all .field-0 .0) = search needs in
     ap (λ r. changed r (c .give-all .last .marks)) e
     ∙ goes-on P (s .window .function) (w .place) (s .depth) (context (c .args .marks .now)) (w .operation) vs (w .results) (t .0)
-      (items (a .params)) (items (a .results)) (maybe (a .depth)) (g .0) (g .1) (omega arith) (omega arith) (Err (c .in-Break-give-all .field-0 .0)) (c .in-Break-give-all .ensures tt vs z h (omega arith))
+    (items (a .params)) (items (a .results)) (maybe (a .depth)) (g .0) (g .1) (omega arith) (omega arith) (Err (c .in-Break-give-all .field-0 .0)) (c .in-Break-give-all .ensures tt vs z h (omega arith))
 
 pub returns : need.returns
 returns c P vs z t S h l k =
@@ -27,4 +27,4 @@ returns c P vs z t S h l k =
     let g = c .in-Some .ensures tt P S in
     c .bind .ensures t k (omega arith)
     ∙ goes-on P (s .window .function) (w .place) (s .depth) (context (c .args .marks .now)) (w .operation) vs (w .results) (t .0)
-      (items (a .params)) (items (a .results)) (maybe (a .depth)) (g .0) (g .1) (omega arith) (omega arith) (Ok (context (c .give-all .last .marks))) (c .in-Continue-give-all .ensures tt vs z h (omega arith))
+    (items (a .params)) (items (a .results)) (maybe (a .depth)) (g .0) (g .1) (omega arith) (omega arith) (Ok (context (c .give-all .last .marks))) (c .in-Continue-give-all .ensures tt vs z h (omega arith))
