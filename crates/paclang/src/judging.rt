@@ -12,7 +12,10 @@ pub(crate) fn judge_lines(rt: &LibcRuntime) -> io::Result<bool> {
         let line = line?;
         number = number.saturating_add(1);
         let Ok(program) = hex::text::decode(heap, line.as_bytes()) else {
-            eprintln!(rt, "paclang: standard input: line {number}: no hexadecimal text")?;
+            eprintln!(
+                rt,
+                "paclang: standard input: line {number}: no hexadecimal text"
+            )?;
             return Ok(false);
         };
         answers.push_str(verdicts::line(heap, &program)?.as_str())?;

@@ -1,9 +1,9 @@
 //! The command `paclang`: checks and lists encoded programs.
 mod checking;
+mod judging;
 mod listing;
 mod loading;
 mod naming;
-mod judging;
 mod wording;
 
 use std::env;

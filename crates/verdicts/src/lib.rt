@@ -9,7 +9,13 @@ use std::alloc::AllocError;
 use std::alloc::Global;
 
 /// Four numbers, with blanks between them.
-fn numbers(heap: Global, number: u8, layer: u8, function: u8, place: usize) -> Result<String, AllocError>
+fn numbers(
+    heap: Global,
+    number: u8,
+    layer: u8,
+    function: u8,
+    place: usize,
+) -> Result<String, AllocError>
     ensures { λ r. ⌜ made r (λ s. string-bytes s ≡ row number layer function place) ⌝ }
 {
     format!(heap, "{number} {layer} {function} {place}")
@@ -21,6 +27,12 @@ pub fn line(heap: Global, program: &[u8]) -> Result<String, AllocError>
 {
     match check(program) {
         Ok(()) => String::from_str(heap, "ok"),
-        Err(fault) => numbers(heap, fault.question.number(), fault.layer, fault.function, fault.place),
+        Err(fault) => numbers(
+            heap,
+            fault.question.number(),
+            fault.layer,
+            fault.function,
+            fault.place,
+        ),
     }
 }

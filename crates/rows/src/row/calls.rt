@@ -21,7 +21,8 @@ impl<T: Copy, const N: usize> Row<T, N> {
     pub fn len(&self) -> usize
         ensures { λ r. ⌜ r ≡ length (items (now (self .entry))) ⌝ }
     {
-        self.len
+        let values = self.len;
+        values
     }
 
     /// The value at a place, if there is one.

@@ -9,4 +9,4 @@ pub returns-in-Err : need.returns-in-Err
 returns-in-Err c =
     let f = c .in-Err .fault in
     made-weaker (c .numbers .result) (λ s. string-bytes s ≡ row (c .number .result) (f .layer) (f .function) (f .place)) (λ s. string-bytes s ≡ written (verdict (c .args .program .now)))
-      (λ s h. h ∙ ap (λ n. row n (f .layer) (f .function) (f .place)) (c .number .ensures) ∙ ap written (c .in-Err .ensures tt .answer)) (c .numbers .ensures)
+    (λ s h. h ∙ ap (λ n. row n (f .layer) (f .function) (f .place)) (c .number .ensures) ∙ ap written (c .in-Err .ensures tt .answer)) (c .numbers .ensures)
