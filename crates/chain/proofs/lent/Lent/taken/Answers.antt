@@ -4,9 +4,10 @@ use native.Mathlib.Omega.{arith}
 use borrow.Author.Needs.{needs}
 use Rattle.std.proofs.shelf.Lists.{drop-all}
 use Rattle.chain.specs.Chains.{needs-of}
-use Rattle.chain.proofs.Changes.{needs-more, if-some, if-none, linked-total}
+use Rattle.chain.proofs.Changes.{needs-more, if-some, if-none}
 use lib.ListN.{getD}
 use Rattle.chain.specs.Chains.{no-head}
+use Rattle.chain.proofs.Stored.{chain-units}
 use Rattle.chain.proofs.lent.Lent.taken.Needs as need
 use Rattle.chain.proofs.lent.Lent.taken.Needs.{then-is-some, else-is-some}
 
@@ -21,7 +22,9 @@ loop-head-again c =
 
 pub returns : need.returns
 returns c =
-    let e = ap needs-of (drop-all (c .loop-head .head-index) (c .args .self .now .heads .now) (c .loop-head-test .left)) in
-    let t = linked-total (c .args .self .now .heads .now) (c .args .self .now .links .now) (c .args .self .now .memory .now) (c .args .self .now .free) (c .args .self .now .spare) (c .pre) in
+    let l = c .args .self .now in
+    let e = ap needs-of (drop-all (c .loop-head .head-index) (l .heads .now) (c .loop-head-test .left)) in
+    let u = chain-units l (c .pre .sound) (c .pre .apart) in
+    let x = c .pre .sound .units in
     let i = c .loop-head .inv in
-    omega arith
+    record { value = omega arith; within = omega arith }
