@@ -1,5 +1,6 @@
 pub mod calls;
 pub mod carry;
+pub mod halves;
 pub mod split;
 
 pub use calls::SplitStore;

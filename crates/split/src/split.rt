@@ -1,5 +1,7 @@
 ghost use mathlib.Core.Path.{_≡_};
 ghost use Prim.Native.Nat.{max, min};
+ghost use Rattle.std.specs.Options.{isSome};
+ghost use Rattle.store.specs.Meaning.{found};
 ghost use Rattle.split.specs.Splits.{larger, split-meaning, new-split, Stands};
 ghost use Rattle.split.specs.Places.{Placed};
 use store::Name;
@@ -57,6 +59,16 @@ impl<N: Store, F: Store> Split<N, F> {
         match self.far.size(name) {
             Ok(size) => Place::Far(size),
             Err(_) => Place::Nowhere,
+        }
+    }
+
+    pub(crate) fn holds(&self, name: Name) -> bool
+        ensures { λ r. ⌜ (N·Store .made (now (self .entry) .near) → F·Store .made (now (self .entry) .far) → r ≡ isSome (found (split-meaning (N·Store .meaning (now (self .entry) .near)) (F·Store .meaning (now (self .entry) .far)) (now (self .entry) .clean)) name)) ⌝ }
+    {
+        match self.place(name) {
+            Place::Near(_) => true,
+            Place::Far(_) => true,
+            Place::Nowhere => false,
         }
     }
 

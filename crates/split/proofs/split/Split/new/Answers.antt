@@ -2,7 +2,7 @@ use mathlib.Core.Path.{_≡_, _∙_, refl}
 use mathlib.Core.Bool.{_&&_}
 use lib.Dec.{eqb}
 use Rattle.split.specs.Splits.{unused}
-use Rattle.split.proofs.Halves.{clean-yes, clean-no, new-stands, new-meaning}
+use Rattle.split.proofs.States.{clean-yes, clean-no, new-stands, new-meaning}
 use Rattle.split.proofs.split.Split.new.Needs as need
 use Rattle.split.proofs.split.Split.new.Needs.{then-near-used-eq0, else-near-used-eq0}
 

@@ -15,13 +15,10 @@ use Rattle.std.specs.declared.result.Result.{Result}
 use Rattle.std.specs.declared.result.Result.the-variants.{Ok, Err}
 use Rattle.store.specs.declared.name.Name.{Name}
 use Rattle.store.specs.declared.denial.Question.{Question}
-use Rattle.store.specs.Meaning.{Meaning, with-packets, found, units, answer, alive-no, inside-no, size-of, holder-of, byte-of, handed, make-no, make-after, discard-answer, discard-after, hand-answer, hand-after, write-answer, write-after, holder-answer, read-answer}
+use Rattle.store.specs.Meaning.{Meaning, with-packets, found, units, answer, alive-no, size-of, make-no, make-answer, make-after, discard-after, hand-after, write-after}
 use Rattle.store.specs.Packets.{Packet, Packets, Entry, empty, insert, remove, lookup, used, usedIn, new-packet, with-holder, with-byte}
 use Rattle.store.proofs.Answered.{make-yes, make-granted, discard-alive, hand-alive, write-inside, write-outside}
 use Rattle.store.proofs.Maps.{packets-equal, packets-from-lookups, lookup-empty, used-empty, used-new, used-same, used-drop}
-use Rattle.split.specs.declared.split.Place.{Place}
-use Rattle.split.specs.declared.split.Place.the-variants.{Near, Far, Nowhere}
-use Rattle.split.specs.Places.{Placed}
 use Rattle.split.specs.Splits.{merged, larger, split-meaning, unused, new-split, Fit, Stands}
 use Rattle.split.proofs.Merging.{either, none-some, lookup-merged, used-merged, used-mono, used-member, inserted, removed, lacking, Nears, Fars, put-near, fit-near, put-far, fit-far, cut-both, fit-cut}
 
@@ -40,6 +37,10 @@ module _ (a b : Meaning) (n : Name) (clean : Bool) where
   in-far e f = sym (at-clean e ∙ ap (λ (o : Option Packet). either o (found b n)) f)
 
 -- what a size tells of a name
+pub size-known : (o : Option Packet) (z : ℕ) → Ok z ≡ answer (alive-no o) (size-of o) → (p : Packet) × (o ≡ Some p) × (length (p .bytes) ≡ z)
+size-known None z e = absurd (let w : _≡_ {A = ℕ} 0 1 = cc in let i : ⊥ = omega arith in i)
+size-known (Some p) z e = (p, refl, (let w : length (p .bytes) ≡ z = cc in w))
+
 pub size-denied : (o : Option Packet) (r : Result ℕ Question) → r ≡ answer (alive-no o) (size-of o) → ((x : ℕ) → r ≡ Ok x → ⊥) → o ≡ None
 size-denied None r e h = refl
 size-denied (Some p) r e h = absurd (h (length (p .bytes)) e)
@@ -83,15 +84,6 @@ module _ (a b : Meaning) (k : ℕ) (la : (i : ℕ) → 1 ≤ a .need i) (lb : (i
     within = omega arith;
   }
 
-  pub new-stands : (nears fars : Type 0) (clean : Bool) → nears → fars → clean ≡ unused a b → Stands nears fars a b clean k 0
-  new-stands nears fars clean s t e = record {
-    near = s;
-    far = t;
-    least = λ i. let z = la i in omega arith;
-    fit = λ c. (let z = and-parts (eqb (units a) 0) (eqb (units b) 0) (sym e ∙ c) in new-fit (eqb-true (units a) 0 (z .0)) (eqb-true (units b) 0 (z .1)));
-    none = λ _. refl;
-  }
-
   pub new-meaning : (clean : Bool) → clean ≡ unused a b → split-meaning a b clean ≡ new-split a b
   new-meaning clean e =
       λ i. record { packets = (ap (λ (t : Bool). cond t (merged (a .packets) (b .packets)) empty) e ∙ go (unused a b) refl) i; largest = min (a .largest) (b .largest); capacity = cond (e i) (min (a .capacity) (b .capacity)) 0; need = larger a b }
@@ -100,22 +92,15 @@ module _ (a b : Meaning) (k : ℕ) (la : (i : ℕ) → 1 ≤ a .need i) (lb : (i
       go false c = refl
       go true c = let z = and-parts (eqb (units a) 0) (eqb (units b) 0) c in both-empty (eqb-true (units a) 0 (z .0)) (eqb-true (units b) 0 (z .1))
 
--- ---- the answers of a call on a name go by what the name stands for
-module _ (m s : Meaning) (n : Name) (e : found m n ≡ found s n) where
-  pub discard-as : discard-answer m n ≡ discard-answer s n
-  discard-as = ap (λ (o : Option Packet). answer {X = Unit {0}} (alive-no o) tt) e
-
-  pub hand-as : hand-answer m n ≡ hand-answer s n
-  hand-as = ap (λ (o : Option Packet). answer (alive-no o) handed) e
-
-  pub write-as : (i : ℕ) → write-answer m n i ≡ write-answer s n i
-  write-as i = ap (λ (o : Option Packet). answer {X = Unit {0}} (inside-no o i) tt) e
-
-  pub holder-as : holder-answer m n ≡ holder-answer s n
-  holder-as = ap (λ (o : Option Packet). answer (alive-no o) (holder-of o)) e
-
-  pub read-as : (i : ℕ) → read-answer m n i ≡ read-answer s n i
-  read-as i = ap (λ (o : Option Packet). answer (inside-no o i) (byte-of o i)) e
+  pub new-stands : (nears fars : Type 0) (clean : Bool) → nears → fars → clean ≡ unused a b → Stands nears fars a b clean k 0
+  new-stands nears fars clean s t e = record {
+    near = s;
+    far = t;
+    least = λ i. let z = la i in omega arith;
+    sum = sym (ap units (new-meaning clean e) ∙ used-empty (larger a b));
+    within = (let z = ap units (new-meaning clean e) ∙ used-empty (larger a b) in omega arith);
+    fit = λ c. (let z = and-parts (eqb (units a) 0) (eqb (units b) 0) (sym e ∙ c) in new-fit (eqb-true (units a) 0 (z .0)) (eqb-true (units b) 0 (z .1)));
+  }
 
 -- ---- a change of the stores that keeps the split's state
 pub record Next (a b a′ b′ : Meaning) (clean : Bool) (k v : ℕ) (goal : Meaning) : Type 0 where
@@ -129,8 +114,9 @@ stands-next nears fars a b a′ b′ clean k u v goal s e x y t = record {
   near = x;
   far = y;
   least = λ size. t .needs size (s .least size);
+  sum = subst (λ (c : Bool). v ≡ units (split-meaning a′ b′ c)) (sym e) (t .fit .sum);
+  within = subst (λ (c : Bool). units (split-meaning a′ b′ c) ≤ split-meaning a′ b′ c .capacity) (sym e) (let z = t .fit .sum in let w = t .fit .within in omega arith);
   fit = λ _. t .fit;
-  none = λ f. absurd (true≢false (sym e ∙ f));
 }
 
 module _ (a b a′ b′ : Meaning) (clean : Bool) (live : clean ≡ true) (k u : ℕ) (fit : Fit a b k u) (n : Name) where
@@ -343,59 +329,35 @@ module _ (a b a′ b′ : Meaning) (clean : Bool) (live : clean ≡ true) (k u :
         (fit-far a b k u fit n (a .packets) y p l r ok v (omega arith) (omega arith))
         (ap (with-packets (split-meaning a b true)) j ∙ make-granted (split-meaning a b true) n size granted .1)
 
--- a packet that lies somewhere
-pub taken : (a b : Meaning) (clean : Bool) (n : Name) (r : Place) → Placed a b clean n r → (r ≡ Nowhere → ⊥) → (p : Packet) × (found (split-meaning a b clean) n ≡ Some p)
-taken a b clean n (Near size) t h = (t .1 .0, sym (in-near a b n clean (t .1 .0) (t .0) (t .1 .1)) ∙ t .1 .1)
-taken a b clean n (Far size) t h = (t .2 .0, sym (in-far a b n clean (t .0) (t .1)) ∙ t .2 .1)
-taken a b clean n Nowhere t h = absurd (h refl)
-
--- ---- the units of a split
-module _ {A B : Type 0} (a b : Meaning) (clean : Bool) (k u : ℕ) (s : Stands A B a b clean k u) where
-  by-clean : (P : Bool → Type 0) → (clean ≡ true → P true) → (clean ≡ false → P false) → P clean
-  by-clean P f g = elim clean as (λ t. (t ≡ true → P true) → (t ≡ false → P false) → P t) [ true ↦ λ f g. f refl | false ↦ λ f g. g refl ] f g
-
-  pub stands-units : u ≡ units (split-meaning a b clean)
-  stands-units = by-clean (λ t. u ≡ units (split-meaning a b t)) (λ e. s .fit e .sum) (λ e. s .none e ∙ sym (used-empty (larger a b)))
-
-  pub stands-within : units (split-meaning a b clean) ≤ split-meaning a b clean .capacity
-  stands-within =
-      by-clean (λ t. units (split-meaning a b t) ≤ split-meaning a b t .capacity)
-      (λ e. let x = s .fit e .sum in let y = s .fit e .within in omega arith)
-      (λ e. let x = used-empty (larger a b) in omega arith)
-
+-- ---- a new packet, from what the call knows
+module _ {A B : Type 0} (a b a′ b′ : Meaning) (clean : Bool) (k u : ℕ) (s : Stands A B a b clean k u) (n : Name) (size : ℕ)
+    (gone : found (split-meaning a b clean) n ≡ None) (small : size ≤ min (a .largest) (b .largest)) (room : units (split-meaning a b clean) + larger a b size ≤ split-meaning a b clean .capacity) where
   -- only a split that was made over empty stores has room
-  pub stands-room : (size need room : ℕ) → need ≡ larger a b size → room ≡ split-meaning a b clean .capacity → need ≤ room - u
-      → (clean ≡ true) × (u + larger a b size ≤ min (a .capacity) (b .capacity))
-  stands-room size need room e f h = go clean refl (s .least size) f
-    where
-      go : (t : Bool) → clean ≡ t → 1 ≤ larger a b size → room ≡ cond t (min (a .capacity) (b .capacity)) 0 → (clean ≡ true) × (u + larger a b size ≤ min (a .capacity) (b .capacity))
-      go true c l g = (c, omega arith)
-      go false c l g = absurd (let y : ⊥ = omega arith in y)
-
--- ---- make, from what the call knows
-module _ {A B : Type 0} (a b a′ b′ : Meaning) (clean : Bool) (k u : ℕ) (s : Stands A B a b clean k u) (n : Name) (size need room most : ℕ)
-    (units-is : need ≡ larger a b size) (room-is : room ≡ split-meaning a b clean .capacity) (most-is : most ≡ split-meaning a b clean .largest)
-    (gone : found (split-meaning a b clean) n ≡ None) (small : size ≤ most) (some : need ≤ room - u) where
   pub live : clean ≡ true
-  live = stands-room a b clean k u s size need room units-is room-is some .0
+  live = go clean refl room (s .least size)
+    where
+      go : (t : Bool) → clean ≡ t → units (split-meaning a b t) + larger a b size ≤ split-meaning a b t .capacity → 1 ≤ larger a b size → clean ≡ true
+      go true c r l = c
+      go false c r l = absurd (let y : ⊥ = omega arith in y)
 
   gone-there : found (split-meaning a b true) n ≡ None
   gone-there = subst (λ (t : Bool). found (split-meaning a b t) n ≡ None) live gone
 
-  pub yes-split : make-no (split-meaning a b clean) n size ≡ None
-  yes-split =
-      let x = stands-units a b clean k u s in
-      let y = ap (λ (t : Bool). split-meaning a b t .capacity) live in
-      let z = stands-room a b clean k u s size need room units-is room-is some .1 in
-      make-yes (split-meaning a b clean) n size gone (omega arith) (omega arith)
+  room-there : u + larger a b size ≤ min (a .capacity) (b .capacity)
+  room-there = let c = ap (λ (t : Bool). split-meaning a b t .capacity) live in let z = s .sum in omega arith
 
-  module _ (v : ℕ) (w : v ≡ u + need) where
-    pub made-near : n .maker ≤ k → a′ ≡ make-after a n size → b′ ≡ b → (make-no a n size ≡ None) × Next a b a′ b′ clean k v (make-after (split-meaning a b clean) n size)
-    made-near le e f =
-        let z = stands-room a b clean k u s size need room units-is room-is some .1 in
-        (near-granted a b a′ b′ clean live k u (s .fit live) n size gone-there (omega arith) z, near-make a b a′ b′ clean live k u (s .fit live) n size gone-there (omega arith) z v (omega arith) le e f)
+  yes-split : make-no (split-meaning a b clean) n size ≡ None
+  yes-split = make-yes (split-meaning a b clean) n size gone small room
 
-    pub made-far : k < n .maker → a′ ≡ a → b′ ≡ make-after b n size → (make-no b n size ≡ None) × Next a b a′ b′ clean k v (make-after (split-meaning a b clean) n size)
-    made-far lt e f =
-        let z = stands-room a b clean k u s size need room units-is room-is some .1 in
-        (far-granted a b a′ b′ clean live k u (s .fit live) n size gone-there (omega arith) z, far-make a b a′ b′ clean live k u (s .fit live) n size gone-there (omega arith) z v (omega arith) lt e f)
+  module _ (v need : ℕ) (is : need ≡ larger a b size) (w : v ≡ u + need) where
+    pub made-near : n .maker ≤ k → a′ ≡ make-after a n size → b′ ≡ b → (make-answer a n size ≡ make-answer (split-meaning a b clean) n size) × Next a b a′ b′ clean k v (make-after (split-meaning a b clean) n size)
+    made-near le e f = (
+      sym (make-granted a n size (near-granted a b a′ b′ clean live k u (s .fit live) n size gone-there small room-there) .0) ∙ make-granted (split-meaning a b clean) n size yes-split .0,
+      near-make a b a′ b′ clean live k u (s .fit live) n size gone-there small room-there v (omega arith) le e f,
+    )
+
+    pub made-far : k < n .maker → a′ ≡ a → b′ ≡ make-after b n size → (make-answer b n size ≡ make-answer (split-meaning a b clean) n size) × Next a b a′ b′ clean k v (make-after (split-meaning a b clean) n size)
+    made-far lt e f = (
+      sym (make-granted b n size (far-granted a b a′ b′ clean live k u (s .fit live) n size gone-there small room-there) .0) ∙ make-granted (split-meaning a b clean) n size yes-split .0,
+      far-make a b a′ b′ clean live k u (s .fit live) n size gone-there small room-there v (omega arith) lt e f,
+    )
