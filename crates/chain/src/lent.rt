@@ -10,6 +10,7 @@ ghost use Rattle.std.specs.declared.option.Option.the-variants.{Some, None};
 ghost use Rattle.std.specs.declared.result.Result.the-variants.{Ok};
 ghost use Rattle.store.specs.declared.name.Name.{Name};
 ghost use Rattle.store.specs.Meaning.{found, units, make-answer, make-after, discard-after, write-after, hand-after};
+ghost use Rattle.store.specs.Packets.{empty};
 ghost use Rattle.store.specs.Rows.{Lies, Sought, distinct, row-at};
 use crate::cells::CELL;
 use crate::cells::cell_at;
@@ -32,6 +33,35 @@ pub struct Lent<'a> {
 }
 
 impl<'a> Lent<'a> {
+    // Without packets: each head is free, and each cell is spare, in the order of their numbers.
+    pub(crate) fn over(
+        memory: &'a mut [u8],
+        links: &'a mut [usize],
+        heads: &'a mut [Head],
+    ) -> Lent<'a>
+        requires bytes { ⌜ length (now memory) ≡ 32 * length (now heads) ⌝ }
+        requires joins { ⌜ length (now links) ≡ length (now heads) ⌝ }
+        ensures sound { λ r. ⌜ Sound r ⌝ }
+        ensures apart { λ r. ⌜ distinct (rows r) ≡ true ⌝ }
+        ensures packets { λ r. ⌜ lent-meaning r .packets ≡ empty ⌝ }
+        ensures heads { λ r. ⌜ length (now (r .heads)) ≡ length (now (heads .entry)) ⌝ }
+    {
+        for head in heads.iter_mut() {
+            *head = Head::free();
+        }
+        for (i, link) in links.iter_mut().enumerate() {
+            *link = i + 1;
+        }
+        let spare = heads.len();
+        Lent {
+            memory,
+            links,
+            heads,
+            free: 0,
+            spare,
+        }
+    }
+
     // The head of the packet of that name.
     pub(crate) fn seek(&self, name: Name) -> Option<usize>
         ensures { λ r. ⌜ Sought (rows (now (self .entry))) name r ⌝ }

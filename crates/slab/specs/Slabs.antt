@@ -1,5 +1,6 @@
 -- A slab's table and memory, as rows: slot i has the 256 bytes from 256 * i on.
 use mathlib.Core.List.{List, [], _∷_}
+use mathlib.Core.Bool.{true}
 use mathlib.Core.Path.{_≡_}
 use Prim.Native.Nat.{ℕ, _+_, _*_, _≤_, _<_}
 use Rattle.std.specs.declared.option.Option.{Option}
@@ -10,8 +11,8 @@ use Rattle.slab.specs.declared.lent.Lent.{Lent}
 use Rattle.slab.specs.declared.slot.Slot.{Slot}
 use Rattle.store.specs.declared.name.Name.{Name}
 use Rattle.store.specs.Meaning.{Meaning, found, units}
-use Rattle.store.specs.Packets.{packet}
-use Rattle.store.specs.Rows.{Row, Lies, place, meaning-of}
+use Rattle.store.specs.Packets.{packet, empty}
+use Rattle.store.specs.Rows.{Row, Lies, gathered, distinct, place, meaning-of}
 
 -- a slot's packet is the front of its bytes
 abbrev pub row : Slot → List ℕ → Row
@@ -27,6 +28,10 @@ rows l = slab-rows (now (l .slots)) (now (l .memory))
 -- each slot has its bytes, and there are no others
 abbrev pub Whole : Lent → Type 0
 Whole l = length (now (l .memory)) ≡ 256 * length (now (l .slots))
+
+-- a table without packets, whatever the memory holds
+abbrev pub Cleared : List Slot → Type 0
+Cleared ss = (memory : List ℕ) → (gathered (slab-rows ss memory) ≡ empty) × (distinct (slab-rows ss memory) ≡ true)
 
 abbrev pub slab-meaning : Lent → Meaning
 slab-meaning l = meaning-of (rows l) 256 (length (now (l .slots))) (λ _. 1)

@@ -26,7 +26,11 @@ mod tests {
     }
 
     // Holders 0 to 1 in the first store, 2 to 5 in the second, the others in the third.
-    fn wander<A: Store + Drop, B: Store + Drop, C: Store + Drop>(first: A, second: B, third: C) -> Result<(), Fail> {
+    fn wander<A: Store + Drop, B: Store + Drop, C: Store + Drop>(
+        first: A,
+        second: B,
+        third: C,
+    ) -> Result<(), Fail> {
         let mut store = Split::new(Split::new(first, second, 1), third, 5);
         check_eq(store.capacity(), 2)?;
         check_eq(store.need(33), 2)?;
@@ -39,7 +43,11 @@ mod tests {
             check_eq(store.read(name, 39).ok(), Some(44))?;
             check_eq(store.used(), 2)?;
         }
-        denied(calls::make(&mut store, Name { maker: 2, count: 0 }, 0), 3, 62)?;
+        denied(
+            calls::make(&mut store, Name { maker: 2, count: 0 }, 0),
+            3,
+            62,
+        )?;
         check(calls::discard(&mut store, name).is_ok())?;
         check_eq(store.used(), 0)
     }
@@ -53,7 +61,11 @@ mod tests {
         let mut heads = [Head::free(); 7];
         let mut third = [1u8; 800];
         let mut third_slots = [Slot::free(); 3];
-        wander(Slab::new(&mut first, &mut first_slots), Chain::new(&mut second, &mut links, &mut heads), Slab::new(&mut third, &mut third_slots))
+        wander(
+            Slab::new(&mut first, &mut first_slots),
+            Chain::new(&mut second, &mut links, &mut heads),
+            Slab::new(&mut third, &mut third_slots),
+        )
     }
 
     // Made over a store in use, a split holds nothing and takes nothing.
@@ -74,6 +86,9 @@ mod tests {
         let mut first_slots = [Slot::free(); 2];
         let mut second = [0u8; 512];
         let mut second_slots = [Slot::free(); 2];
-        over_one_in_use(Slab::new(&mut first, &mut first_slots), Slab::new(&mut second, &mut second_slots))
+        over_one_in_use(
+            Slab::new(&mut first, &mut first_slots),
+            Slab::new(&mut second, &mut second_slots),
+        )
     }
 }

@@ -3,7 +3,7 @@ use mathlib.Core.Path.{_≡_}
 use lib.ListN.{getD, length}
 use Rattle.std.specs.declared.option.Option.the-variants.{None}
 use Rattle.chain.specs.Chains.{no-head}
-use Rattle.chain.proofs.chain.Chain.new.Given as given
+use Rattle.chain.proofs.lent.Lent.over.Given as given
 
 abbrev pub Inv-loop-head : given.InvT-loop-head
 Inv-loop-head l = (k : ℕ) → k < l .head-index → getD (l .heads) k no-head .name ≡ None
