@@ -1,4 +1,4 @@
-ghost use Prim.Native.Nat.{ℕ, min, _/_};
+ghost use Prim.Native.Nat.{min, _/_};
 ghost use denote.Ref.{now};
 ghost use lib.ListN.{length};
 ghost use mathlib.Core.Bool.{true};

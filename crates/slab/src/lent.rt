@@ -1,4 +1,4 @@
-ghost use Prim.Native.Nat.{ℕ, _+_, _*_, _≤_, _<_};
+ghost use Prim.Native.Nat.{_+_, _*_, _≤_, _<_};
 ghost use denote.Ref.{now};
 ghost use lib.ListN.{length, getD};
 ghost use mathlib.Core.Bool.{true};

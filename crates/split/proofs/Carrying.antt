@@ -1,16 +1,16 @@
 -- Bytes copied one by one from a packet of one store to a packet of another.
 use mathlib.Core.Path.{_≡_, refl, sym, _∙_, ap}
 use mathlib.Core.List.{List, [], _∷_, _++_, append-nil}
-use Prim.Native.Nat.{ℕ, zero, suc, _+_, _≤_, _<_}
+use Prim.Native.Nat.{ℕ, zero, suc, _+_, _<_}
 use native.Mathlib.Omega.{arith}
 use lib.ListN.{length, take, drop, getD, set, length-append, length-take, length-drop, replicate, length-replicate}
 use Rattle.std.proofs.shelf.Lists.{drop-all, take-all}
 use Rattle.std.proofs.shelf.Tests.{lt-ltb}
 use Rattle.std.specs.Results.{valueOr}
-use Rattle.std.specs.declared.option.Option.the-variants.{Some, None}
+use Rattle.std.specs.declared.option.Option.the-variants.{Some}
 use Rattle.std.specs.declared.result.Result.the-variants.{Ok}
 use Rattle.store.specs.declared.name.Name.{Name}
-use Rattle.store.specs.Meaning.{Meaning, with-packets, found, write-after, read-answer, make-no, make-after}
+use Rattle.store.specs.Meaning.{Meaning, with-packets, found, write-after, read-answer, make-after}
 use Rattle.store.specs.Packets.{Packet, insert, new-packet, with-byte, with-bytes, with-holder}
 use Rattle.store.proofs.Answered.{write-inside, make-granted, hand-alive}
 use Rattle.store.proofs.Maps.{insert-known, insert-twice, lookup-insert-same}

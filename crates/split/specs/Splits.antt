@@ -1,7 +1,7 @@
 -- A split over two stores: what it means, and where its calls keep it.
 use mathlib.Core.Path.{_≡_}
 use mathlib.Core.List.{List, [], _∷_}
-use mathlib.Core.Bool.{Bool, true, false, cond, _&&_}
+use mathlib.Core.Bool.{Bool, true, cond, _&&_}
 use Prim.Native.Nat.{ℕ, _≤_, _<_, min, max}
 use lib.Dec.{eqb}
 use lib.ListN.{length}

@@ -1,4 +1,3 @@
-ghost use mathlib.Core.Path.{_≡_};
 ghost use Rattle.split.specs.Carry.{Carried, Copied, Moved};
 use store::Handed;
 use store::Name;

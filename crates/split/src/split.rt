@@ -1,5 +1,4 @@
 ghost use mathlib.Core.Path.{_≡_};
-ghost use Prim.Native.Nat.{ℕ};
 ghost use Rattle.std.specs.Options.{isSome};
 ghost use Rattle.store.specs.Meaning.{found};
 ghost use Rattle.split.specs.Splits.{larger, split-meaning, new-split, Stands};

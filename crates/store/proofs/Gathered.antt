@@ -2,18 +2,16 @@
 use mathlib.Core.Path.{_≡_, refl, sym, _∙_, ap, subst}
 use mathlib.Core.List.{List, [], _∷_}
 use mathlib.Core.Bool.{Bool, true, false, cond, not, _&&_, true≢false}
-use mathlib.Core.Logic.{_⊎_, inl, inr}
 use Prim.Native.Nat.{ℕ, zero, suc, _+_, _≤_, _<_}
 use native.Mathlib.Omega.{arith}
-use lib.Dec.{T}
 use lib.ListN.{length, getD, set}
 use Rattle.std.specs.declared.option.Option.{Option}
 use Rattle.std.specs.declared.option.Option.the-variants.{Some, None}
 use Rattle.store.specs.declared.name.Name.{Name}
-use Rattle.store.specs.Names.{same, same-equal, same-refl}
-use Rattle.store.specs.Packets.{Packet, Packets, lookup, insert, remove, empty, used}
+use Rattle.store.specs.Names.{same, same-equal}
+use Rattle.store.specs.Packets.{Packet, lookup, insert, remove, used}
 use Rattle.store.specs.Rows.{alike, next, position, Row, placed, gathered, lacks, fresh, distinct, need-in, total, row-at, with-packet}
-use Rattle.store.proofs.Maps.{same-or, same-not, same-true, apart-same, same-flip, lookup-empty, lookup-insert, lookup-insert-same, lookup-insert-other, lookup-remove, insert-twice, insert-swap, remove-insert, remove-swap, used-empty, used-new}
+use Rattle.store.proofs.Maps.{same-not, same-flip, lookup-empty, lookup-insert-same, lookup-insert-other, insert-twice, insert-swap, remove-insert, remove-swap, used-empty, used-new}
 
 -- the first row of the name n is at i
 abbrev pub Holds : Name → List Row → ℕ → Type 0

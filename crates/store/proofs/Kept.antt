@@ -10,7 +10,7 @@ use Rattle.std.specs.declared.option.Option.{Option}
 use Rattle.std.specs.declared.option.Option.the-variants.{Some, None}
 use Rattle.std.specs.declared.result.Result.the-variants.{Ok}
 use Rattle.store.specs.declared.name.Name.{Name}
-use Rattle.store.specs.Packets.{Packet, Packets, lookup, insert, remove, new-packet, with-byte, with-holder}
+use Rattle.store.specs.Packets.{Packet, Packets, lookup, insert, new-packet, with-byte, with-holder}
 use Rattle.store.specs.Meaning.{Meaning, with-packets, found, units, make-answer, make-after, discard-after, hand-after, write-after}
 use Rattle.store.specs.Rows.{Row, Lies, Sought, place, gathered, distinct, row-at, row-of, with-packet, blank, total, meaning-of}
 use Rattle.store.proofs.Answered as call

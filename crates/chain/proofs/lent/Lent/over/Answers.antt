@@ -1,16 +1,13 @@
-use Prim.Native.Nat.{ℕ, _+_, _-_, _*_, _≤_, _<_}
-use mathlib.Core.Path.{_≡_, sym, _∙_, ap, subst}
+use Prim.Native.Nat.{ℕ, _+_, _<_}
+use mathlib.Core.Path.{_≡_, _∙_, ap}
 use mathlib.Core.Logic.{_≢_}
 use native.Mathlib.Omega.{arith}
-use borrow.Author.Needs.{needs}
 use borrow.Author.Count.{below-more}
-use lib.ListN.{length, take, length-take, getD, set}
+use lib.ListN.{length, getD, set}
 use lib.Seq.{getD-set-same, getD-set-other}
-use Rattle.std.specs.declared.option.Option.{Option}
 use Rattle.std.specs.declared.option.Option.the-variants.{None}
-use Rattle.store.specs.declared.name.Name.{Name}
 use Rattle.chain.specs.declared.head.Head.{Head}
-use Rattle.chain.specs.Chains.{no-head, Linked}
+use Rattle.chain.specs.Chains.{no-head}
 use Rattle.chain.proofs.Changes.{start-rows, start-linked}
 use Rattle.chain.proofs.lent.Lent.over.Needs as need
 

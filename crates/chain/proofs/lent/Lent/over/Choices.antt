@@ -1,6 +1,6 @@
 use Prim.Native.Nat.{ℕ, _+_, _<_}
 use mathlib.Core.Path.{_≡_}
-use lib.ListN.{getD, length}
+use lib.ListN.{getD}
 use Rattle.std.specs.declared.option.Option.the-variants.{None}
 use Rattle.chain.specs.Chains.{no-head}
 use Rattle.chain.proofs.lent.Lent.over.Given as given

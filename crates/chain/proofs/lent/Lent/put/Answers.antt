@@ -1,14 +1,13 @@
 use Prim.Native.Nat.{ℕ}
-use mathlib.Core.Path.{_≡_, refl, sym, _∙_, ap, subst}
+use mathlib.Core.Path.{refl, sym, _∙_, ap, subst}
 use lib.ListN.{length, set}
 use Rattle.chain.specs.Chains.{chain-need, chain-rows, Linked}
 use Rattle.chain.proofs.Changes.{at-put}
-use native.Mathlib.Omega.{arith}
 use Rattle.store.specs.Packets.{with-byte}
 use Rattle.store.proofs.Gathered.{distinct-packet}
 use Rattle.store.proofs.Kept.{kept-write}
 use Rattle.chain.specs.Lents.{rows}
-use Rattle.chain.proofs.Changes.{alive-within, bytes-alive}
+use Rattle.chain.proofs.Changes.{bytes-alive}
 use Rattle.chain.proofs.Stored.{row-of-head}
 use Rattle.chain.proofs.lent.Lent.put.Needs as need
 

@@ -1,5 +1,5 @@
 use Prim.Native.Nat.{ℕ, _*_}
-use mathlib.Core.Path.{_≡_, refl, sym, _∙_, ap}
+use mathlib.Core.Path.{refl, sym, _∙_, ap}
 use lib.ListN.{length, length-set, set}
 use Rattle.store.specs.Packets.{with-holder}
 use Rattle.store.proofs.Gathered.{distinct-packet}

@@ -1,5 +1,5 @@
 use Prim.Native.Nat.{ℕ, _*_}
-use mathlib.Core.Path.{_≡_, sym, _∙_, ap}
+use mathlib.Core.Path.{sym, _∙_, ap}
 use lib.ListN.{length, length-set, set}
 use Rattle.store.specs.Rows.{distinct}
 use Rattle.store.proofs.Gathered.{distinct-drop}

@@ -1,7 +1,7 @@
-use mathlib.Core.Path.{_≡_, refl, sym, _∙_, ap, subst}
+use mathlib.Core.Path.{refl, sym, _∙_, ap, subst}
 use Prim.Native.Nat.{ℕ, _-_}
 use Rattle.std.specs.declared.option.Option.{Option}
-use Rattle.store.specs.Meaning.{answer, alive-no, handed}
+use Rattle.store.specs.Meaning.{answer, alive-no}
 use Rattle.store.specs.Packets.{Packet}
 use Rattle.split.specs.Places.{Placed}
 use Rattle.split.specs.Splits.{larger}

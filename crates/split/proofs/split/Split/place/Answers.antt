@@ -1,4 +1,4 @@
-use mathlib.Core.Path.{_≡_, sym, _∙_}
+use mathlib.Core.Path.{sym, _∙_}
 use Rattle.store.specs.Meaning.{found}
 use Rattle.split.proofs.States.{in-none, in-near, in-far, size-known, size-denied, size-error}
 use Rattle.split.proofs.split.Split.place.Needs as need

@@ -1,7 +1,6 @@
-use mathlib.Core.Path.{_≡_, _∙_, refl}
+use mathlib.Core.Path.{_∙_, refl}
 use mathlib.Core.Bool.{_&&_}
 use lib.Dec.{eqb}
-use Rattle.split.specs.Splits.{unused}
 use Rattle.split.proofs.States.{clean-yes, clean-no, new-stands, new-meaning}
 use Rattle.split.proofs.split.Split.unused.Needs as need
 
