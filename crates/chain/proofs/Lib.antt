@@ -1,0 +1,4 @@
+mod Changes
+mod Linked
+mod Wiping
+mod Stored

@@ -1,0 +1,3 @@
+mod Carrying
+mod States
+mod Merging

@@ -1,0 +1,7 @@
+mod calls;
+mod carry;
+mod halves;
+mod split;
+
+pub use calls::SplitStore;
+pub use split::Split;
