@@ -1,15 +1,15 @@
 -- What make, drop and write leave of a chain: its rows, and its cells apart.
 use mathlib.Core.Path.{_≡_, refl, sym, _∙_, ap, subst}
 use mathlib.Core.List.{List, [], _∷_, _++_}
-use mathlib.Core.Bool.{Bool, true, false, cond, true≢false, _&&_}
-use mathlib.Core.Logic.{_⊎_, inl, inr, _≢_}
-use Prim.Native.Nat.{ℕ, zero, suc, _+_, _*_, _-_, _/_, _%_, _≤_, _<_, min, max}
+use mathlib.Core.Bool.{true, false, cond, true≢false, _&&_}
+use mathlib.Core.Logic.{_⊎_, inl, inr}
+use Prim.Native.Nat.{ℕ, zero, suc, _+_, _*_, _-_, _/_, _%_, _≤_, _<_}
 use native.Mathlib.Omega.{arith}
 use native.Mathlib.Numerals.{add-one}
-use lib.ListN.{length, getD, set, take, drop, replicate, length-take, length-drop, length-set, length-append, length-replicate}
-use lib.Seq.{getD-set-same, getD-set-other, getD-take, getD-drop, set-getD, set-set, set-append-left, drop-cons}
+use lib.ListN.{length, getD, set, take, drop, replicate, length-take, length-drop, length-set, length-append}
+use lib.Seq.{getD-take, getD-drop, set-getD, set-set, set-append-left, drop-cons}
 use Rattle.std.proofs.shelf.Lists.{take-replicate, replicate-append-replicate, set-append-right, getD-append-left, getD-append-right}
-use Rattle.std.proofs.shelf.Tests.{cases-eq, cases-lt}
+use Rattle.std.proofs.shelf.Tests.{cases-eq}
 use Rattle.std.specs.declared.option.Option.{Option}
 use Rattle.std.specs.declared.option.Option.the-variants.{Some, None}
 use Rattle.store.specs.declared.name.Name.{Name}
@@ -21,7 +21,7 @@ use Rattle.std.specs.Options.{isSome}
 use Rattle.store.specs.Rows.{Row, blank, row-at, row-of, with-packet, place, need-in, total, gathered, distinct, placed, fresh, position, alike, next}
 use Rattle.store.proofs.Gathered.{Free, free-from, free-within, none-next}
 use Rattle.store.proofs.Blocks.{block-set, others-set, take-set}
-use Rattle.chain.proofs.Linked.{hit-same, hit-other, hit-none, within-past, within-below, within-most, inside, count-append, nth-back, cells-add, length-cells, count-nth, cells-splice, counts-set, needs-set, rows-set, counts-apart, rows-apart, joined-same, rows-same}
+use Rattle.chain.proofs.Linked.{hit-same, hit-other, hit-none, within-below, within-most, inside, count-append, cells-add, length-cells, count-nth, cells-splice, counts-set, needs-set, rows-set, counts-apart, rows-apart, joined-same, rows-same}
 
 pub need-least : (size : ℕ) → 1 ≤ chain-need size
 need-least size = omega arith

@@ -1,22 +1,20 @@
 -- Chains of cells: what a change of one link, of some bytes or of one head leaves of the others.
-use mathlib.Core.Path.{_≡_, refl, sym, _∙_, ap, subst}
+use mathlib.Core.Path.{_≡_, refl, sym, _∙_, ap}
 use mathlib.Core.List.{List, [], _∷_, _++_}
-use mathlib.Core.Bool.{Bool, true, false, cond, true≢false}
 use mathlib.Core.Logic.{_⊎_, inl, inr, _≢_}
-use Prim.Native.Nat.{ℕ, zero, suc, _+_, _*_, _-_, _/_, _≤_, _<_, min, max}
+use Prim.Native.Nat.{ℕ, zero, suc, _+_, _≤_, _<_}
 use native.Mathlib.Omega.{arith}
-use lib.Dec.{eqb, ltb}
-use lib.ListN.{length, getD, set, take, drop, replicate, length-take, length-drop, length-set, length-append, length-replicate}
-use lib.Seq.{getD-set-same, getD-set-other, set-getD, set-set}
-use Rattle.std.proofs.shelf.Tests.{cases-eq, cases-lt, eq-eqb, ne-eqb, lt-ltb, le-ltb}
+use lib.ListN.{length, getD, set, take}
+use lib.Seq.{getD-set-same, getD-set-other}
+use Rattle.std.proofs.shelf.Tests.{cases-lt, eq-eqb, ne-eqb, lt-ltb, le-ltb}
 use Rattle.std.specs.declared.option.Option.{Option}
 use Rattle.std.specs.declared.option.Option.the-variants.{Some, None}
 use Rattle.store.specs.declared.name.Name.{Name}
 use Rattle.chain.specs.declared.head.Head.{Head}
 use Rattle.chain.specs.Cells.{step, nth-cell, cells, cell-bytes, joined, hit, count, within}
-use Rattle.chain.specs.Chains.{chain-need, chain-bytes, head-row, chain-rows, cells-of, counts, need-if, needs-of, Linked}
+use Rattle.chain.specs.Chains.{chain-need, head-row, chain-rows, cells-of, counts, need-if, needs-of}
 use Rattle.store.specs.Packets.{packet}
-use Rattle.store.specs.Rows.{Row, blank, row-of}
+use Rattle.store.specs.Rows.{Row, row-of}
 
 -- ---- counting
 pub hit-same : (c d : ℕ) → c ≡ d → hit c d ≡ 1

@@ -1,53 +1,36 @@
 -- A chain's places and units.
-use mathlib.Core.Path.{_≡_, refl, sym, _∙_, ap}
+use mathlib.Core.Path.{_≡_, sym, _∙_}
 use mathlib.Core.Bool.{true}
-use Prim.Native.Nat.{ℕ, _+_, _≤_, _<_}
+use Prim.Native.Nat.{ℕ, _≤_, _<_}
 use native.Mathlib.Omega.{arith}
 use lib.ListN.{length}
 use Rattle.std.specs.Options.{isSome}
+use Rattle.std.specs.declared.option.Option.{Option}
 use Rattle.std.specs.declared.option.Option.the-variants.{Some, None}
-use Rattle.store.specs.declared.name.Name.{Name}
-use Rattle.store.specs.Meaning.{found, units}
-use Rattle.store.specs.Rows.{place, distinct, row-at, total}
-use Rattle.store.proofs.Gathered.{holds-from, holds-name}
-use Rattle.store.proofs.Kept.{kept-missing, kept-found, kept-units}
+use Rattle.store.specs.Meaning.{units}
+use Rattle.store.specs.Rows.{place, distinct, row-at}
+use Rattle.store.proofs.Kept.{kept-units}
 use Rattle.chain.specs.declared.lent.Lent.{Lent}
 use Rattle.chain.specs.Chains.{chain-need, needs-of}
-use Rattle.chain.specs.Lents.{rows, lent-meaning, Sound, Whole, Even, Exact, Once}
-use Rattle.chain.proofs.Changes.{place-rows, linked-total, needs-full}
+use Rattle.chain.specs.Lents.{rows, lent-meaning, Sound, Vacant}
+use Rattle.chain.proofs.Changes.{alive-within, place-rows, length-rows, linked-total, needs-full}
 
 module _ (l : Lent) where
-  pub sound-from : Whole l → Even l → Exact l → Once l → Sound l
-  sound-from w e x o = record { bytes = w; joins = e; units = x; once = o }
+  records : length (rows l) ≡ length (l .heads .now)
+  records = length-rows (l .heads .now) (l .links .now) (l .memory .now)
 
-  -- ---- what a name stands for
-  pub chain-missing : (n : Name) → None ≡ place (Some n) (rows l) → found (lent-meaning l) n ≡ None
-  chain-missing = kept-missing (rows l) 1024 (length (l .heads .now)) chain-need
+  pub row-of-head : (i : ℕ) → isSome (row-at (rows l) i .named) ≡ true → i < length (rows l)
+  row-of-head i h = let a = alive-within (l .heads .now) (l .links .now) (l .memory .now) i h in let b = records in omega arith
 
-  pub chain-found : (n : Name) (i : ℕ) → Some i ≡ place (Some n) (rows l) → found (lent-meaning l) n ≡ Some (row-at (rows l) i .packet)
-  chain-found = kept-found (rows l) 1024 (length (l .heads .now)) chain-need
+  module _ (ok : Sound l) (d : distinct (rows l) ≡ true) where
+    pub chain-units : units (lent-meaning l) ≡ needs-of (l .heads .now)
+    chain-units = kept-units (rows l) 1024 (length (l .heads .now)) chain-need d ∙ linked-total (l .heads .now) (l .links .now) (l .memory .now) (l .free) (l .spare) ok
 
-  pub chain-alive : (n : Name) (i : ℕ) → Some i ≡ place (Some n) (rows l) → isSome (row-at (rows l) i .named) ≡ true
-  chain-alive n i e = ap isSome (holds-name n (rows l) i (holds-from n (rows l) i (sym e)))
+    pub cells-short : (size k : ℕ) → k ≡ chain-need size → l .spare < k → Vacant l size None
+    cells-short size k e h = let u = chain-units in let x = ok .units in omega arith
 
-  pub chain-units : distinct (rows l) ≡ true → units (lent-meaning l) ≡ total chain-need (rows l)
-  chain-units = kept-units (rows l) 1024 (length (l .heads .now)) chain-need
-
-  -- ---- what is used, what is left
-  module _ (ok : Sound l) where
-    in-use : total chain-need (rows l) ≡ needs-of (l .heads .now)
-    in-use = linked-total (l .heads .now) (l .links .now) (l .memory .now) (l .free) (l .spare) ok
-
-    pub cells-within : total chain-need (rows l) ≤ length (l .heads .now)
-    cells-within = let u = in-use in let x = ok .units in omega arith
-
-    pub cells-left : (k : ℕ) → k ≤ l .spare → total chain-need (rows l) + k ≤ length (l .heads .now)
-    cells-left k h = let u = in-use in let x = ok .units in omega arith
-
-    pub cells-full : (k : ℕ) → l .spare < k → length (l .heads .now) < total chain-need (rows l) + k
-    cells-full k h = let u = in-use in let x = ok .units in omega arith
-
-    pub heads-full : (k : ℕ) → 1 ≤ k → None ≡ place None (rows l) → length (l .heads .now) < total chain-need (rows l) + k
-    heads-full k h e =
-        let u = in-use in
-        let f = needs-full (l .heads .now) (sym (place-rows None (l .heads .now) (l .links .now) (l .memory .now)) ∙ sym e) in omega arith
+    pub vacancy : (size k : ℕ) → k ≡ chain-need size → k ≤ l .spare → (o : Option ℕ) → o ≡ place None (rows l) → Vacant l size o
+    vacancy size k e h None f =
+        let u = chain-units in
+        let n = needs-full (l .heads .now) (sym (place-rows None (l .heads .now) (l .links .now) (l .memory .now)) ∙ sym f) in omega arith
+    vacancy size k e h (Some i) f = (f, omega arith, let u = chain-units in let x = ok .units in omega arith)

@@ -1,6 +1,6 @@
 -- A chain's heads, links and memory, as rows, and what keeps its cells apart.
 use mathlib.Core.Path.{_≡_}
-use mathlib.Core.List.{List, [], _∷_, _++_}
+use mathlib.Core.List.{List, [], _∷_}
 use Prim.Native.Nat.{ℕ, _+_, _*_, _/_, _≤_, max}
 use lib.ListN.{length, take}
 use Rattle.std.specs.declared.option.Option.{Option}

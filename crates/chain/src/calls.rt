@@ -28,17 +28,13 @@ pub impl<'a> Store for Chain<'a> as ChainStore {
     }
 
     fn make(&mut self, name: Name, size: usize) -> Result<(), Question> {
-        if self.lent.place(Some(name)).is_some() {
+        if self.lent.seek(name).is_some() {
             return Err(Question::Unused);
         }
         if size > LARGEST {
             return Err(Question::Fits);
         }
-        if cells_for(size) > self.lent.spare {
-            return Err(Question::Room);
-        }
-        // with a spare cell there is a free head: each packet has a cell
-        let Some(head) = self.lent.place(None) else {
+        let Some(head) = self.lent.vacant(size) else {
             return Err(Question::Room);
         };
         self.lent.fill(head, name, size);
@@ -46,7 +42,7 @@ pub impl<'a> Store for Chain<'a> as ChainStore {
     }
 
     fn discard(&mut self, name: Name) -> Result<(), Question> {
-        let Some(head) = self.lent.place(Some(name)) else {
+        let Some(head) = self.lent.seek(name) else {
             return Err(Question::Alive);
         };
         self.lent.release(head);
@@ -54,7 +50,7 @@ pub impl<'a> Store for Chain<'a> as ChainStore {
     }
 
     fn write(&mut self, name: Name, offset: usize, byte: u8) -> Result<(), Question> {
-        let Some(head) = self.lent.place(Some(name)) else {
+        let Some(head) = self.lent.seek(name) else {
             return Err(Question::Alive);
         };
         if offset >= self.lent.size(head) {
@@ -65,7 +61,7 @@ pub impl<'a> Store for Chain<'a> as ChainStore {
     }
 
     fn hand(&mut self, name: Name, holder: u8) -> Result<Handed, Question> {
-        let Some(head) = self.lent.place(Some(name)) else {
+        let Some(head) = self.lent.seek(name) else {
             return Err(Question::Alive);
         };
         self.lent.hand(head, holder);
@@ -89,21 +85,21 @@ pub impl<'a> Store for Chain<'a> as ChainStore {
     }
 
     fn size(&self, name: Name) -> Result<usize, Question> {
-        let Some(head) = self.lent.place(Some(name)) else {
+        let Some(head) = self.lent.seek(name) else {
             return Err(Question::Alive);
         };
         Ok(self.lent.size(head))
     }
 
     fn holder(&self, name: Name) -> Result<u8, Question> {
-        let Some(head) = self.lent.place(Some(name)) else {
+        let Some(head) = self.lent.seek(name) else {
             return Err(Question::Alive);
         };
         Ok(self.lent.holder(head))
     }
 
     fn read(&self, name: Name, offset: usize) -> Result<u8, Question> {
-        let Some(head) = self.lent.place(Some(name)) else {
+        let Some(head) = self.lent.seek(name) else {
             return Err(Question::Alive);
         };
         if offset >= self.lent.size(head) {

@@ -1,4 +1,4 @@
-ghost use Prim.Native.Nat.{ℕ, min, _/_};
+ghost use Prim.Native.Nat.{min, _/_};
 ghost use denote.Ref.{now};
 ghost use lib.ListN.{length};
 ghost use mathlib.Core.Bool.{true};
@@ -31,20 +31,8 @@ impl<'a> Chain<'a> {
         let memory = &mut memory[0..CELL * count];
         let links = &mut links[0..count];
         let heads = &mut heads[0..count];
-        for head in heads.iter_mut() {
-            *head = Head::free();
-        }
-        for (i, link) in links.iter_mut().enumerate() {
-            *link = i + 1;
-        }
         Chain {
-            lent: Lent {
-                memory,
-                links,
-                heads,
-                free: 0,
-                spare: count,
-            },
+            lent: Lent::over(memory, links, heads),
         }
     }
 }

@@ -1,15 +1,17 @@
 ghost use Prim.Native.Nat.{ℕ, _+_, _*_, _≤_, _<_};
 ghost use denote.Ref.{now};
-ghost use lib.ListN.{length, replicate, getD, set};
+ghost use lib.ListN.{length, replicate, getD};
 ghost use mathlib.Core.Bool.{true};
 ghost use mathlib.Core.Path.{_≡_};
 ghost use Rattle.chain.specs.Cells.{nth-cell, cells, cell-bytes, count};
-ghost use Rattle.chain.specs.Chains.{chain-need};
-ghost use Rattle.chain.specs.Lents.{rows, Sound, spot-of};
+ghost use Rattle.chain.specs.Lents.{rows, lent-meaning, Sound, Vacant, spot-of};
 ghost use Rattle.std.specs.Options.{isSome};
 ghost use Rattle.std.specs.declared.option.Option.the-variants.{Some, None};
-ghost use Rattle.store.specs.Packets.{new-packet, with-byte, with-holder};
-ghost use Rattle.store.specs.Rows.{place as place-of, row-at, row-of, with-packet, blank, total};
+ghost use Rattle.std.specs.declared.result.Result.the-variants.{Ok};
+ghost use Rattle.store.specs.declared.name.Name.{Name};
+ghost use Rattle.store.specs.Meaning.{found, units, make-answer, make-after, discard-after, write-after, hand-after};
+ghost use Rattle.store.specs.Packets.{empty};
+ghost use Rattle.store.specs.Rows.{Lies, Sought, distinct, row-at};
 use crate::cells::CELL;
 use crate::cells::cell_at;
 use crate::cells::cells_for;
@@ -31,11 +33,53 @@ pub struct Lent<'a> {
 }
 
 impl<'a> Lent<'a> {
-    // The first head of that name, or the first free head.
-    pub(crate) fn place(&self, name: Option<Name>) -> Option<usize>
-        ensures { λ r. ⌜ r ≡ place-of name (rows (now (self .entry))) ⌝ }
+    // Without packets: each head is free, and each cell is spare, in the order of their numbers.
+    pub(crate) fn over(
+        memory: &'a mut [u8],
+        links: &'a mut [usize],
+        heads: &'a mut [Head],
+    ) -> Lent<'a>
+        requires bytes { ⌜ length (now memory) ≡ 32 * length (now heads) ⌝ }
+        requires joins { ⌜ length (now links) ≡ length (now heads) ⌝ }
+        ensures sound { λ r. ⌜ Sound r ⌝ }
+        ensures apart { λ r. ⌜ distinct (rows r) ≡ true ⌝ }
+        ensures packets { λ r. ⌜ lent-meaning r .packets ≡ empty ⌝ }
+        ensures heads { λ r. ⌜ length (now (r .heads)) ≡ length (now (heads .entry)) ⌝ }
     {
-        find(self.heads, name)
+        for head in heads.iter_mut() {
+            *head = Head::free();
+        }
+        for (i, link) in links.iter_mut().enumerate() {
+            *link = i + 1;
+        }
+        let spare = heads.len();
+        Lent {
+            memory,
+            links,
+            heads,
+            free: 0,
+            spare,
+        }
+    }
+
+    // The head of the packet of that name.
+    pub(crate) fn seek(&self, name: Name) -> Option<usize>
+        ensures { λ r. ⌜ Sought (rows (now (self .entry))) name r ⌝ }
+    {
+        find(self.heads, Some(name))
+    }
+
+    // A head without a packet, where the spare cells suffice for that size.
+    pub(crate) fn vacant(&self, size: usize) -> Option<usize>
+        requires sound { ⌜ Sound (now self) ⌝ }
+        requires apart { ⌜ distinct (rows (now self)) ≡ true ⌝ }
+        ensures { λ r. ⌜ Vacant (now (self .entry)) size r ⌝ }
+    {
+        if cells_for(size) > self.spare {
+            return None;
+        }
+        // where a cell is spare a head is free, since each packet has a cell
+        find(self.heads, None)
     }
 
     // The cell that lies so many links behind the first.
@@ -68,11 +112,14 @@ impl<'a> Lent<'a> {
     // A new packet of zeros, in the first spare cells, under a head that was free.
     pub(crate) fn fill(&mut self, head: usize, name: Name, size: usize)
         requires sound { ⌜ Sound (now self) ⌝ }
-        requires free { ⌜ Some head ≡ place-of None (rows (now self)) ⌝ }
-        requires room { ⌜ chain-need size ≤ now self .spare ⌝ }
-        ensures rows { λ _. ⌜ rows (now (self .exit)) ≡ set (rows (now (self .entry))) head (row-of name (new-packet name size)) ⌝ }
+        requires apart { ⌜ distinct (rows (now self)) ≡ true ⌝ }
+        requires gone { ⌜ found (lent-meaning (now self)) name ≡ None ⌝ }
+        requires small { ⌜ size ≤ 1024 ⌝ }
+        requires free { ⌜ Vacant (now self) size (Some head) ⌝ }
+        ensures answer { λ _. ⌜ make-answer (lent-meaning (now (self .entry))) name size ≡ Ok tt ⌝ }
+        ensures after { λ _. ⌜ lent-meaning (now (self .exit)) ≡ make-after (lent-meaning (now (self .entry))) name size ⌝ }
         ensures sound { λ _. ⌜ Sound (now (self .exit)) ⌝ }
-        ensures heads { λ _. ⌜ length (now (now (self .exit) .heads)) ≡ length (now (now (self .entry) .heads)) ⌝ }
+        ensures apart { λ _. ⌜ distinct (rows (now (self .exit))) ≡ true ⌝ }
     {
         let amount = cells_for(size);
         let first = self.free;
@@ -89,10 +136,11 @@ impl<'a> Lent<'a> {
     // A head has no packet any more; its cells are the first of the spare ones.
     pub(crate) fn release(&mut self, head: usize)
         requires sound { ⌜ Sound (now self) ⌝ }
+        requires apart { ⌜ distinct (rows (now self)) ≡ true ⌝ }
         requires alive { ⌜ isSome (row-at (rows (now self)) head .named) ≡ true ⌝ }
-        ensures rows { λ _. ⌜ rows (now (self .exit)) ≡ set (rows (now (self .entry))) head blank ⌝ }
+        ensures after { λ _. ⌜ ((n : Name) → Lies (rows (now (self .entry))) n head → lent-meaning (now (self .exit)) ≡ discard-after (lent-meaning (now (self .entry))) n) ⌝ }
         ensures sound { λ _. ⌜ Sound (now (self .exit)) ⌝ }
-        ensures heads { λ _. ⌜ length (now (now (self .exit) .heads)) ≡ length (now (now (self .entry) .heads)) ⌝ }
+        ensures apart { λ _. ⌜ distinct (rows (now (self .exit))) ≡ true ⌝ }
     {
         let old = self.heads[head];
         let amount = cells_for(old.size);
@@ -117,10 +165,11 @@ impl<'a> Lent<'a> {
     // Another byte at an offset of a head's packet.
     pub(crate) fn put(&mut self, head: usize, offset: usize, byte: u8)
         requires sound { ⌜ Sound (now self) ⌝ }
+        requires apart { ⌜ distinct (rows (now self)) ≡ true ⌝ }
         requires inside { ⌜ offset < length (row-at (rows (now self)) head .packet .bytes) ⌝ }
-        ensures rows { λ _. ⌜ rows (now (self .exit)) ≡ set (rows (now (self .entry))) head (with-packet (with-byte offset byte) (row-at (rows (now (self .entry))) head)) ⌝ }
+        ensures after { λ _. ⌜ ((n : Name) → Lies (rows (now (self .entry))) n head → lent-meaning (now (self .exit)) ≡ write-after (lent-meaning (now (self .entry))) n offset byte) ⌝ }
         ensures sound { λ _. ⌜ Sound (now (self .exit)) ⌝ }
-        ensures heads { λ _. ⌜ length (now (now (self .exit) .heads)) ≡ length (now (now (self .entry) .heads)) ⌝ }
+        ensures apart { λ _. ⌜ distinct (rows (now (self .exit))) ≡ true ⌝ }
     {
         let spot = self.spot(head, offset);
         self.memory[spot] = byte;
@@ -137,10 +186,11 @@ impl<'a> Lent<'a> {
     // Another holder of a head's packet.
     pub(crate) fn hand(&mut self, head: usize, holder: u8)
         requires sound { ⌜ Sound (now self) ⌝ }
+        requires apart { ⌜ distinct (rows (now self)) ≡ true ⌝ }
         requires alive { ⌜ isSome (row-at (rows (now self)) head .named) ≡ true ⌝ }
-        ensures rows { λ _. ⌜ rows (now (self .exit)) ≡ set (rows (now (self .entry))) head (with-packet (with-holder holder) (row-at (rows (now (self .entry))) head)) ⌝ }
+        ensures after { λ _. ⌜ ((n : Name) → Lies (rows (now (self .entry))) n head → lent-meaning (now (self .exit)) ≡ hand-after (lent-meaning (now (self .entry))) n holder) ⌝ }
         ensures sound { λ _. ⌜ Sound (now (self .exit)) ⌝ }
-        ensures heads { λ _. ⌜ length (now (now (self .exit) .heads)) ≡ length (now (now (self .entry) .heads)) ⌝ }
+        ensures apart { λ _. ⌜ distinct (rows (now (self .exit))) ≡ true ⌝ }
     {
         let old = self.heads[head];
         self.heads[head] = Head {
@@ -168,8 +218,10 @@ impl<'a> Lent<'a> {
 
     // The sum of the needs of all packets.
     pub(crate) fn taken(&self) -> usize
-        requires { ⌜ Sound (now self) ⌝ }
-        ensures { λ r. ⌜ r ≡ total chain-need (rows (now (self .entry))) ⌝ }
+        requires sound { ⌜ Sound (now self) ⌝ }
+        requires apart { ⌜ distinct (rows (now self)) ≡ true ⌝ }
+        ensures value { λ r. ⌜ r ≡ units (lent-meaning (now (self .entry))) ⌝ }
+        ensures within { λ r. ⌜ r ≤ length (now (now (self .entry) .heads)) ⌝ }
     {
         let mut sum = 0;
         for head in self.heads.iter() {

@@ -1,8 +1,8 @@
-pub mod calls;
-pub mod cells;
-pub mod chain;
-pub mod head;
-pub mod lent;
+mod calls;
+mod cells;
+mod chain;
+mod head;
+mod lent;
 
 pub use calls::ChainStore;
 pub use chain::Chain;

@@ -1,10 +1,11 @@
 //! `paclang check`: one program, each action on a line of its own.
 use crate::loading::load;
 use crate::wording::print_denial;
+use checker::layers::check;
 use std::io;
 
 /// Checks the program in a file; whether it is accepted.
-pub fn check_file(rt: &LibcRuntime, path: &str) -> io::Result<bool> {
+pub(crate) fn check_file(rt: &LibcRuntime, path: &str) -> io::Result<bool> {
     let Some(program) = load(rt, path)? else {
         return Ok(false);
     };
@@ -25,6 +26,15 @@ pub fn check_file(rt: &LibcRuntime, path: &str) -> io::Result<bool> {
         rt,
         "found: threads {threads}, own queues {queues}, functions {functions}"
     )?;
-    println!(rt, "accepted")?;
-    Ok(true)
+    println!(rt, "layers 2 and 3: the signatures, then the bodies")?;
+    match check(&program) {
+        Ok(()) => {
+            println!(rt, "accepted")?;
+            Ok(true)
+        }
+        Err(fault) => {
+            print_denial(rt, fault)?;
+            Ok(false)
+        }
+    }
 }

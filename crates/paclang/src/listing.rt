@@ -19,7 +19,7 @@ struct Level {
 }
 
 /// Lists the program in a file; false where it does not read.
-pub fn list_file(rt: &LibcRuntime, path: &str) -> io::Result<bool> {
+pub(crate) fn list_file(rt: &LibcRuntime, path: &str) -> io::Result<bool> {
     let Some(program) = load(rt, path)? else {
         return Ok(false);
     };

@@ -4,7 +4,7 @@ use std::fs;
 use std::io;
 
 /// The bytes of the program in a file; none where there are none, after a line on standard error that says why.
-pub fn load(rt: &LibcRuntime, path: &str) -> io::Result<Option<Vec<u8>>> {
+pub(crate) fn load(rt: &LibcRuntime, path: &str) -> io::Result<Option<Vec<u8>>> {
     let bytes = match fs::read(rt, path) {
         Ok(bytes) => bytes,
         Err(error) => {

@@ -1,9 +1,9 @@
 //! The command `paclang`: checks and lists encoded programs.
 mod checking;
+mod judging;
 mod listing;
 mod loading;
 mod naming;
-mod verdicts;
 mod wording;
 
 use std::env;
@@ -25,7 +25,7 @@ fn run(rt: &LibcRuntime) -> io::Result<bool> {
     };
     match (command.as_str(), file) {
         ("check", Some(file)) => checking::check_file(rt, file.as_str()),
-        ("verdicts", None) => verdicts::judge_lines(rt),
+        ("verdicts", None) => judging::judge_lines(rt),
         ("disassemble", Some(file)) => listing::list_file(rt, file.as_str()),
         _ => {
             eprintln!(rt, "paclang: {USAGE}")?;

@@ -7,7 +7,7 @@ use reader::types::Ty;
 use reader::values::Value;
 use std::io;
 
-pub fn type_name(ty: Ty) -> &'static str {
+pub(crate) fn type_name(ty: Ty) -> &'static str {
     match ty {
         Ty::Int => "int",
         Ty::Bool => "bool",
@@ -45,7 +45,7 @@ fn print_queue(rt: &LibcRuntime, queue: u8) -> io::Result<()> {
     }
 }
 
-pub fn print_operation(rt: &LibcRuntime, operation: Operation) -> io::Result<()> {
+pub(crate) fn print_operation(rt: &LibcRuntime, operation: Operation) -> io::Result<()> {
     match operation {
         Operation::Enq(queue) => {
             print_queue(rt, queue)?;
@@ -61,7 +61,7 @@ pub fn print_operation(rt: &LibcRuntime, operation: Operation) -> io::Result<()>
     }
 }
 
-pub fn print_value(rt: &LibcRuntime, value: Value) -> io::Result<()> {
+pub(crate) fn print_value(rt: &LibcRuntime, value: Value) -> io::Result<()> {
     match value {
         Value::Integer(integer) => print!(rt, "{integer}"),
         Value::Truth(truth) => print!(rt, "{truth}"),

@@ -4,7 +4,7 @@ use reader::questions::Question;
 use std::io;
 
 /// The question as it is put; yes is the good answer.
-pub fn words(question: Question) -> &'static str {
+pub(crate) fn words(question: Question) -> &'static str {
     match question {
         Question::Length =>
             "has the input 2 to 4,096 bytes, and does its length field count the bytes after it?",
@@ -40,7 +40,7 @@ pub fn words(question: Question) -> &'static str {
 }
 
 /// Writes a denial, with its question in words.
-pub fn print_denial(rt: &LibcRuntime, fault: Fault) -> io::Result<()> {
+pub(crate) fn print_denial(rt: &LibcRuntime, fault: Fault) -> io::Result<()> {
     let number = fault.question.number();
     let layer = fault.layer;
     let function = fault.function;

@@ -9,3 +9,4 @@ pub mod Names
 pub mod WritesRead
 pub mod WritesProgram
 pub mod Law
+pub mod Parts

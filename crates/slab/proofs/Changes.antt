@@ -7,7 +7,7 @@ use Prim.Native.Nat.{ℕ, zero, suc, _+_, _*_, _≤_, _<_, min}
 use native.Mathlib.Omega.{arith}
 use native.Mathlib.Numerals.{add-one}
 use borrow.Rule.Slice.PartMut.{putMid}
-use lib.ListN.{length, getD, set, take, drop, replicate, length-take, length-drop, length-set, length-replicate}
+use lib.ListN.{length, getD, set, take, drop, replicate, length-take, length-drop, length-set, length-replicate, length-append}
 use lib.Seq.{getD-take, getD-drop, getD-set-same, getD-set-other, set-getD, drop-drop, drop-cons}
 use Rattle.std.proofs.shelf.Lists.{same-lists}
 use Rattle.std.proofs.shelf.Tests.{cases-eq}
@@ -15,7 +15,7 @@ use Rattle.std.specs.Options.{isSome}
 use Rattle.std.specs.declared.option.Option.{Option}
 use Rattle.std.specs.declared.option.Option.the-variants.{Some, None}
 use Rattle.store.specs.declared.name.Name.{Name}
-use Rattle.store.specs.Blocks.{block}
+use Rattle.store.specs.Blocks.{block, zeroed}
 use Rattle.store.specs.Packets.{packet, with-byte, with-holder, empty}
 use Rattle.store.specs.Rows.{Row, alike, next, position, place, gathered, row-at, with-packet, blank, total, need-in, placed, fresh, distinct}
 use Rattle.store.proofs.Blocks.{take-set, block-set, others-set, block-put, others-put}
@@ -117,6 +117,9 @@ module _ (ss : List Slot) (memory : List ℕ) (i : ℕ) (h : i < length ss) wher
         ap (λ (n : ℕ). take n (block 256 i (putMid (256 * i) k memory ys))) (z ∙ sym e) ∙ block-put 256 i k memory ys q l f ∙ w in
         rows-change ss memory (putMid (256 * i) k memory ys) i s h (others-put 256 i k memory ys q l f)
         ∙ ap (λ (bs : List ℕ). set (slab-rows ss memory) i (record { named = s .name; packet = packet (s .holder) bs })) v
+
+    pub whole-fill : (size : ℕ) → size ≤ 256 → length (zeroed (256 * i) size memory) ≡ 256 * length ss
+    whole-fill size small = simp (length-append, length-replicate, length-take, length-drop) (omega arith)
 
   -- ---- another record, and the same bytes
   pub rows-hand : (holder : ℕ) (x s : Slot) → s .name ≡ getD ss i x .name → s .holder ≡ holder → s .size ≡ getD ss i x .size

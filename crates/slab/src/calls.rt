@@ -25,13 +25,13 @@ pub impl<'a> Store for Slab<'a> as SlabStore {
     }
 
     fn make(&mut self, name: Name, size: usize) -> Result<(), Question> {
-        if self.lent.place(Some(name)).is_some() {
+        if self.lent.seek(name).is_some() {
             return Err(Question::Unused);
         }
         if size > SLOT {
             return Err(Question::Fits);
         }
-        let Some(slot) = self.lent.place(None) else {
+        let Some(slot) = self.lent.vacant() else {
             return Err(Question::Room);
         };
         self.lent.fill(slot, name, size);
@@ -39,7 +39,7 @@ pub impl<'a> Store for Slab<'a> as SlabStore {
     }
 
     fn discard(&mut self, name: Name) -> Result<(), Question> {
-        let Some(slot) = self.lent.place(Some(name)) else {
+        let Some(slot) = self.lent.seek(name) else {
             return Err(Question::Alive);
         };
         self.lent.release(slot);
@@ -47,7 +47,7 @@ pub impl<'a> Store for Slab<'a> as SlabStore {
     }
 
     fn write(&mut self, name: Name, offset: usize, byte: u8) -> Result<(), Question> {
-        let Some(slot) = self.lent.place(Some(name)) else {
+        let Some(slot) = self.lent.seek(name) else {
             return Err(Question::Alive);
         };
         if offset >= self.lent.size(slot) {
@@ -58,7 +58,7 @@ pub impl<'a> Store for Slab<'a> as SlabStore {
     }
 
     fn hand(&mut self, name: Name, holder: u8) -> Result<Handed, Question> {
-        let Some(slot) = self.lent.place(Some(name)) else {
+        let Some(slot) = self.lent.seek(name) else {
             return Err(Question::Alive);
         };
         self.lent.hand(slot, holder);
@@ -82,21 +82,21 @@ pub impl<'a> Store for Slab<'a> as SlabStore {
     }
 
     fn size(&self, name: Name) -> Result<usize, Question> {
-        let Some(slot) = self.lent.place(Some(name)) else {
+        let Some(slot) = self.lent.seek(name) else {
             return Err(Question::Alive);
         };
         Ok(self.lent.size(slot))
     }
 
     fn holder(&self, name: Name) -> Result<u8, Question> {
-        let Some(slot) = self.lent.place(Some(name)) else {
+        let Some(slot) = self.lent.seek(name) else {
             return Err(Question::Alive);
         };
         Ok(self.lent.holder(slot))
     }
 
     fn read(&self, name: Name, offset: usize) -> Result<u8, Question> {
-        let Some(slot) = self.lent.place(Some(name)) else {
+        let Some(slot) = self.lent.seek(name) else {
             return Err(Question::Alive);
         };
         if offset >= self.lent.size(slot) {

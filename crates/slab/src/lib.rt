@@ -1,7 +1,7 @@
-pub mod calls;
-pub mod lent;
-pub mod slab;
-pub mod slot;
+mod calls;
+mod lent;
+mod slab;
+mod slot;
 
 pub use calls::SlabStore;
 pub use slab::Slab;

@@ -1,22 +1,20 @@
 -- Bytes copied one by one from a packet of one store to a packet of another.
 use mathlib.Core.Path.{_≡_, refl, sym, _∙_, ap}
 use mathlib.Core.List.{List, [], _∷_, _++_, append-nil}
-use Prim.Native.Nat.{ℕ, zero, suc, _+_, _≤_, _<_}
+use Prim.Native.Nat.{ℕ, zero, suc, _+_, _<_}
 use native.Mathlib.Omega.{arith}
 use lib.ListN.{length, take, drop, getD, set, length-append, length-take, length-drop, replicate, length-replicate}
 use Rattle.std.proofs.shelf.Lists.{drop-all, take-all}
 use Rattle.std.proofs.shelf.Tests.{lt-ltb}
 use Rattle.std.specs.Results.{valueOr}
-use Rattle.std.specs.declared.option.Option.the-variants.{Some, None}
-use Rattle.std.specs.declared.result.Result.{Result}
-use Rattle.std.specs.declared.result.Result.the-variants.{Ok, Err}
+use Rattle.std.specs.declared.option.Option.the-variants.{Some}
+use Rattle.std.specs.declared.result.Result.the-variants.{Ok}
 use Rattle.store.specs.declared.name.Name.{Name}
-use Rattle.store.specs.declared.denial.Question.{Question}
-use Rattle.store.specs.Meaning.{Meaning, with-packets, found, write-after, read-answer, make-no, make-after, hand-after, hand-answer, handed, discard-answer}
+use Rattle.store.specs.Meaning.{Meaning, with-packets, found, write-after, read-answer, make-after}
 use Rattle.store.specs.Packets.{Packet, insert, new-packet, with-byte, with-bytes, with-holder}
-use Rattle.store.proofs.Answered.{write-inside, make-granted, hand-alive, discard-alive}
+use Rattle.store.proofs.Answered.{write-inside, make-granted, hand-alive}
 use Rattle.store.proofs.Maps.{insert-known, insert-twice, lookup-insert-same}
-use Rattle.split.specs.Carry.{mixed, Carried}
+use Rattle.split.specs.Carry.{mixed, Carried, Copied}
 
 mix-more : (i : ℕ) (ps qs : List ℕ) → i < length ps → i < length qs → set (take i ps ++ drop i qs) i (getD ps i 0) ≡ take (suc i) ps ++ drop (suc i) qs
 mix-more zero [] qs h k = absurd (let y : ⊥ = omega arith in y)
@@ -52,34 +50,23 @@ byte-read m n i p e h = let t = lt-ltb i (length (p .bytes)) h in simp (e, t)
 whole : (size : ℕ) (ps qs : List ℕ) → length ps ≡ size → length qs ≡ size → take size ps ++ drop size qs ≡ ps
 whole size ps qs l k = ap (λ (r : List ℕ). take size ps ++ r) (drop-all size qs (omega arith)) ∙ append-nil (take size ps) ∙ take-all size ps (omega arith)
 
--- made there, filled, and handed on
-module _ (a b b1 b2 b3 : Meaning) (n : Name) (size h : ℕ) (p : Packet) (there : found a n ≡ Some p) (long : length (p .bytes) ≡ size)
-    (yes : make-no b n size ≡ None) (made : b1 ≡ make-after b n size) (carried : Carried a b1 b2 n size size) where
-  at-first : b1 ≡ with-packets b (insert n (new-packet n size) (b .packets))
-  at-first = made ∙ sym (make-granted b n size yes .1)
-
-  at-last : b2 ≡ with-packets b (insert n (mixed size p (new-packet n size)) (b .packets))
-  at-last =
-      let f : found b1 n ≡ Some (new-packet n size) = ap (λ (w : Meaning). found w n) at-first ∙ lookup-insert-same n (new-packet n size) (b .packets) in
-      carried p (new-packet n size) there f long (length-replicate size 0)
-      ∙ ap (λ (w : Meaning). with-packets w (insert n (mixed size p (new-packet n size)) (w .packets))) at-first
-      ∙ ap (with-packets b) (insert-twice n (mixed size p (new-packet n size)) (new-packet n size) (b .packets))
-
-  arrived-there : found b2 n ≡ Some (mixed size p (new-packet n size))
-  arrived-there = ap (λ (w : Meaning). found w n) at-last ∙ lookup-insert-same n (mixed size p (new-packet n size)) (b .packets)
-
-  pub arrived : b3 ≡ hand-after b2 n h → (Ok handed ≡ hand-answer b2 n) × (b3 ≡ with-packets b (insert n (with-holder h p) (b .packets)))
-  arrived e =
-      let x = mixed size p (new-packet n size) in
-      let k = hand-alive b2 n x arrived-there h in
-      let v : with-holder h x ≡ with-holder h p = ap (λ (bs : List ℕ). with-holder h (with-bytes bs p)) (whole size (p .bytes) (replicate size 0) long (length-replicate size 0)) in (
-        k .0,
-        e
-            ∙ sym (k .1)
-            ∙ ap (λ (w : Meaning). with-packets w (insert n (with-holder h x) (w .packets))) at-last
-            ∙ ap (with-packets b) (insert-twice n (with-holder h x) x (b .packets) ∙ ap (λ (y : Packet). insert n y (b .packets)) v),
-      )
-
--- what is granted is not denied
-pub granted-not : {e : Question} (m : Meaning) (n : Name) (r : Result (Unit {0}) Question) (p : Packet) → found m n ≡ Some p → r ≡ discard-answer m n → r ≡ Err e → ⊥
-granted-not {e} m n r p l w v = let k = discard-alive m n p l .0 in let z : _≡_ {A = ℕ} 0 1 = cc in omega arith
+-- made there, filled, and then handed on
+pub copied : (a b b1 b2 : Meaning) (n : Name) (size : ℕ) → b1 ≡ make-after b n size → Carried a b1 b2 n size size → Copied a b b2 n size (Ok tt)
+copied a b b1 b2 n size made carried p there long ok =
+    let q = new-packet n size in
+    let x = mixed size p q in
+    let e1 : b1 ≡ with-packets b (insert n q (b .packets)) = made ∙ sym (make-granted b n size ok .1) in
+    let f : found b1 n ≡ Some q = ap (λ (w : Meaning). found w n) e1 ∙ lookup-insert-same n q (b .packets) in
+    let e2 : b2 ≡ with-packets b (insert n x (b .packets)) =
+    carried p q there f long (length-replicate size 0)
+    ∙ ap (λ (w : Meaning). with-packets w (insert n x (w .packets))) e1
+    ∙ ap (with-packets b) (insert-twice n x q (b .packets)) in
+    let l : found b2 n ≡ Some x = ap (λ (w : Meaning). found w n) e2 ∙ lookup-insert-same n x (b .packets) in
+    let v : (h : ℕ) → with-holder h x ≡ with-holder h p = λ h. ap (λ (bs : List ℕ). with-holder h (with-bytes bs p)) (whole size (p .bytes) (replicate size 0) long (length-replicate size 0)) in (
+      refl,
+      sym (hand-alive b2 n x l 0 .0),
+      λ h.
+          sym (hand-alive b2 n x l h .1)
+          ∙ ap (λ (w : Meaning). with-packets w (insert n (with-holder h x) (w .packets))) e2
+          ∙ ap (with-packets b) (insert-twice n (with-holder h x) x (b .packets) ∙ ap (λ (y : Packet). insert n y (b .packets)) (v h)),
+    )

@@ -1,3 +1,3 @@
 mod Carrying
-mod Halves
+mod States
 mod Merging

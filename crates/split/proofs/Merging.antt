@@ -3,14 +3,14 @@ use mathlib.Core.Path.{_≡_, refl, sym, _∙_, ap, subst}
 use mathlib.Core.List.{List, [], _∷_}
 use mathlib.Core.Bool.{Bool, true, false, cond}
 use mathlib.Core.Logic.{_⊎_, inl, inr}
-use Prim.Native.Nat.{ℕ, _+_, _≤_, _<_, min, max}
+use Prim.Native.Nat.{ℕ, _+_, _≤_, _<_, min}
 use native.Mathlib.Omega.{arith}
 use lib.ListN.{length}
 use Rattle.std.specs.declared.option.Option.{Option}
 use Rattle.std.specs.declared.option.Option.the-variants.{Some, None}
 use Rattle.store.specs.declared.name.Name.{Name}
 use Rattle.store.specs.Names.{same, same-refl}
-use Rattle.store.specs.Meaning.{Meaning, with-packets, found}
+use Rattle.store.specs.Meaning.{Meaning, with-packets}
 use Rattle.store.specs.Packets.{Packet, Packets, Entry, insert, remove, lookup, lookupIn, used, usedIn, Ascending}
 use Rattle.store.proofs.Maps.{same-or, same-true, lookup-insert, lookup-remove, lookupIn-above, packets-from-lookups, used-new, used-drop}
 use Rattle.split.specs.Splits.{mergedIn, merged, larger, Fit}

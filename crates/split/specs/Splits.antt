@@ -1,7 +1,7 @@
 -- A split over two stores: what it means, and where its calls keep it.
 use mathlib.Core.Path.{_≡_}
 use mathlib.Core.List.{List, [], _∷_}
-use mathlib.Core.Bool.{Bool, true, false, cond, _&&_}
+use mathlib.Core.Bool.{Bool, true, cond, _&&_}
 use Prim.Native.Nat.{ℕ, _≤_, _<_, min, max}
 use lib.Dec.{eqb}
 use lib.ListN.{length}
@@ -51,9 +51,10 @@ pub record Fit (a b : Meaning) (bound units : ℕ) : Type 0 where
   pub within : units ≤ min (a .capacity) (b .capacity)
 
 -- where a split stands, given that its stores do
-pub record Stands (nears fars : Type 0) (a b : Meaning) (clean : Bool) (bound units : ℕ) : Type 0 where
+pub record Stands (nears fars : Type 0) (a b : Meaning) (clean : Bool) (bound count : ℕ) : Type 0 where
   pub near : nears
   pub far : fars
   pub least : (size : ℕ) → 1 ≤ larger a b size
-  pub fit : clean ≡ true → Fit a b bound units
-  pub none : clean ≡ false → units ≡ 0
+  pub sum : count ≡ units (split-meaning a b clean)
+  pub within : units (split-meaning a b clean) ≤ split-meaning a b clean .capacity
+  pub fit : clean ≡ true → Fit a b bound count

@@ -1,6 +1,5 @@
 ghost use mathlib.Core.Path.{_≡_};
 ghost use Rattle.split.specs.Splits.{split-meaning, Stands};
-use crate::carry::transfer;
 use crate::split::Place;
 use crate::split::Split;
 use store::Handed;
@@ -27,9 +26,9 @@ pub impl<N: Store, F: Store> Store for Split<N, F> as SplitStore {
     }
 
     fn make(&mut self, name: Name, size: usize) -> Result<(), Question> {
-        let Place::Nowhere = self.place(name) else {
+        if self.holds(name) {
             return Err(Question::Unused);
-        };
+        }
         if size > self.most() {
             return Err(Question::Fits);
         }
@@ -37,54 +36,22 @@ pub impl<N: Store, F: Store> Store for Split<N, F> as SplitStore {
         if need > self.room().saturating_sub(self.used) {
             return Err(Question::Room);
         }
-        self.used += need;
-        if name.maker <= self.bound {
-            self.near.make(name, size)
-        } else {
-            self.far.make(name, size)
-        }
+        self.enter(name, size, need)
     }
 
     fn discard(&mut self, name: Name) -> Result<(), Question> {
-        match self.place(name) {
-            Place::Near(size) => {
-                self.used = self.used.saturating_sub(self.units(size));
-                self.near.discard(name)
-            }
-            Place::Far(size) => {
-                self.used = self.used.saturating_sub(self.units(size));
-                self.far.discard(name)
-            }
-            Place::Nowhere => Err(Question::Alive),
-        }
+        let place = self.place(name);
+        self.discard_at(place, name)
     }
 
     fn write(&mut self, name: Name, offset: usize, byte: u8) -> Result<(), Question> {
-        match self.place(name) {
-            Place::Near(_) => self.near.write(name, offset, byte),
-            Place::Far(_) => self.far.write(name, offset, byte),
-            Place::Nowhere => Err(Question::Alive),
-        }
+        let place = self.place(name);
+        self.write_at(place, name, offset, byte)
     }
 
     fn hand(&mut self, name: Name, holder: u8) -> Result<Handed, Question> {
-        match self.place(name) {
-            Place::Near(size) => {
-                if holder <= self.bound {
-                    self.near.hand(name, holder)
-                } else {
-                    transfer(&mut self.near, &mut self.far, name, size, holder)
-                }
-            }
-            Place::Far(size) => {
-                if holder <= self.bound {
-                    transfer(&mut self.far, &mut self.near, name, size, holder)
-                } else {
-                    self.far.hand(name, holder)
-                }
-            }
-            Place::Nowhere => Err(Question::Alive),
-        }
+        let place = self.place(name);
+        self.hand_at(place, name, holder)
     }
 
     fn largest(&self) -> usize {

@@ -1,5 +1,4 @@
-ghost use mathlib.Core.Path.{_≡_};
-ghost use Rattle.split.specs.Carry.{Carried, Moved};
+ghost use Rattle.split.specs.Carry.{Carried, Copied, Moved};
 use store::Handed;
 use store::Name;
 use store::Question;
@@ -15,6 +14,16 @@ fn carry<X: Store, Y: Store>(from: &X, to: &mut Y, name: Name, size: usize)
     }
 }
 
+// Makes a packet of that name and size in another store, with the bytes that it has in this one.
+fn copy<X: Store, Y: Store>(from: &X, to: &mut Y, name: Name, size: usize) -> Result<(), Question>
+    ensures stays { λ _. ⌜ (X·Store .made (now (from .entry)) → Y·Store .made (now (to .entry)) → Y·Store .made (now (to .exit))) ⌝ }
+    ensures copied { λ r. ⌜ (X·Store .made (now (from .entry)) → Y·Store .made (now (to .entry)) → Copied (X·Store .meaning (now (from .entry))) (Y·Store .meaning (now (to .entry))) (Y·Store .meaning (now (to .exit))) name size r) ⌝ }
+{
+    to.make(name, size)?;
+    carry(from, to, name, size);
+    Ok(())
+}
+
 // Moves a packet of that size to another store, and sets its holder there.
 pub(crate) fn transfer<X: Store, Y: Store>(
     from: &mut X,
@@ -26,8 +35,7 @@ pub(crate) fn transfer<X: Store, Y: Store>(
     ensures stays { λ _. ⌜ (X·Store .made (now (from .entry)) → Y·Store .made (now (to .entry)) → X·Store .made (now (from .exit)) × Y·Store .made (now (to .exit))) ⌝ }
     ensures moved { λ r. ⌜ (X·Store .made (now (from .entry)) → Y·Store .made (now (to .entry)) → Moved (X·Store .meaning (now (from .entry))) (X·Store .meaning (now (from .exit))) (Y·Store .meaning (now (to .entry))) (Y·Store .meaning (now (to .exit))) name size holder r) ⌝ }
 {
-    to.make(name, size)?;
-    carry(from, to, name, size);
+    copy(from, to, name, size)?;
     from.discard(name)?;
     to.hand(name, holder)
 }

@@ -1,6 +1,7 @@
-pub mod calls;
-pub mod carry;
-pub mod split;
+mod calls;
+mod carry;
+mod halves;
+mod split;
 
 pub use calls::SplitStore;
 pub use split::Split;

@@ -1,5 +1,6 @@
 ghost use mathlib.Core.Path.{_≡_};
-ghost use Prim.Native.Nat.{max, min};
+ghost use Rattle.std.specs.Options.{isSome};
+ghost use Rattle.store.specs.Meaning.{found};
 ghost use Rattle.split.specs.Splits.{larger, split-meaning, new-split, Stands};
 ghost use Rattle.split.specs.Places.{Placed};
 use store::Name;
@@ -32,16 +33,25 @@ impl<N: Store, F: Store> Split<N, F> {
         ensures meaning { λ r. ⌜ (N·Store .made near → F·Store .made far → split-meaning (N·Store .meaning (r .near)) (F·Store .meaning (r .far)) (r .clean) ≡ new-split (N·Store .meaning near) (F·Store .meaning far)) ⌝ }
         ensures bound { λ r. ⌜ r .bound ≡ bound ⌝ }
     {
-        let near_used = near.used();
-        let far_used = far.used();
-        let clean = near_used == 0 && far_used == 0;
-        Split {
+        let mut split = Split {
             near,
             far,
             bound,
-            clean,
+            clean: false,
             used: 0,
-        }
+        };
+        split.clean = split.unused();
+        split
+    }
+
+    // Whether neither store is in use: where a new split of them then stands, and what it means.
+    fn unused(&self) -> bool
+        ensures stands { λ r. ⌜ (N·Store .made (now (self .entry) .near) → F·Store .made (now (self .entry) .far) → Stands (N·Store .made (now (self .entry) .near)) (F·Store .made (now (self .entry) .far)) (N·Store .meaning (now (self .entry) .near)) (F·Store .meaning (now (self .entry) .far)) r (now (self .entry) .bound) 0) ⌝ }
+        ensures meaning { λ r. ⌜ (N·Store .made (now (self .entry) .near) → F·Store .made (now (self .entry) .far) → split-meaning (N·Store .meaning (now (self .entry) .near)) (F·Store .meaning (now (self .entry) .far)) r ≡ new-split (N·Store .meaning (now (self .entry) .near)) (F·Store .meaning (now (self .entry) .far))) ⌝ }
+    {
+        let near_used = self.near.used();
+        let far_used = self.far.used();
+        near_used == 0 && far_used == 0
     }
 
     // Where the packet of a name lies. What a store held before the split was made is nowhere.
@@ -57,6 +67,16 @@ impl<N: Store, F: Store> Split<N, F> {
         match self.far.size(name) {
             Ok(size) => Place::Far(size),
             Err(_) => Place::Nowhere,
+        }
+    }
+
+    pub(crate) fn holds(&self, name: Name) -> bool
+        ensures { λ r. ⌜ (N·Store .made (now (self .entry) .near) → F·Store .made (now (self .entry) .far) → r ≡ isSome (found (split-meaning (N·Store .meaning (now (self .entry) .near)) (F·Store .meaning (now (self .entry) .far)) (now (self .entry) .clean)) name)) ⌝ }
+    {
+        match self.place(name) {
+            Place::Near(_) => true,
+            Place::Far(_) => true,
+            Place::Nowhere => false,
         }
     }
 

@@ -2,18 +2,16 @@
 use mathlib.Core.Path.{_≡_, refl, sym, _∙_, ap, subst}
 use mathlib.Core.List.{List, [], _∷_}
 use mathlib.Core.Bool.{Bool, true, false, cond, not, _&&_, true≢false}
-use mathlib.Core.Logic.{_⊎_, inl, inr}
 use Prim.Native.Nat.{ℕ, zero, suc, _+_, _≤_, _<_}
 use native.Mathlib.Omega.{arith}
-use lib.Dec.{T}
 use lib.ListN.{length, getD, set}
 use Rattle.std.specs.declared.option.Option.{Option}
 use Rattle.std.specs.declared.option.Option.the-variants.{Some, None}
 use Rattle.store.specs.declared.name.Name.{Name}
-use Rattle.store.specs.Names.{same, same-equal, same-refl}
-use Rattle.store.specs.Packets.{Packet, Packets, lookup, insert, remove, empty, used}
-use Rattle.store.specs.Rows.{alike, next, position, Row, placed, gathered, lacks, fresh, distinct, need-in, total, row-at}
-use Rattle.store.proofs.Maps.{same-or, same-not, same-true, apart-same, same-flip, lookup-empty, lookup-insert, lookup-insert-same, lookup-insert-other, lookup-remove, insert-twice, insert-swap, remove-insert, remove-swap, used-empty, used-new}
+use Rattle.store.specs.Names.{same, same-equal}
+use Rattle.store.specs.Packets.{Packet, lookup, insert, remove, used}
+use Rattle.store.specs.Rows.{alike, next, position, Row, placed, gathered, lacks, fresh, distinct, need-in, total, row-at, with-packet}
+use Rattle.store.proofs.Maps.{same-not, same-flip, lookup-empty, lookup-insert-same, lookup-insert-other, insert-twice, insert-swap, remove-insert, remove-swap, used-empty, used-new}
 
 -- the first row of the name n is at i
 abbrev pub Holds : Name → List Row → ℕ → Type 0
@@ -273,9 +271,17 @@ holds-name n [] i h = absurd h
 holds-name n (r ∷ rs) zero h = h
 holds-name n (r ∷ rs) (suc i) h = holds-name n rs i (h .1)
 
+-- another packet in a row leaves the names distinct
+named-at : (rs : List Row) (i : ℕ) → i < length rs → NamedAt rs i (row-at rs i .named)
+named-at [] i h = absurd (let y : ⊥ = omega arith in y)
+named-at (r ∷ rs) zero h = refl
+named-at (r ∷ rs) (suc i) h = named-at rs i (omega arith)
+
+pub distinct-packet : (f : Packet → Packet) (rs new : List Row) (i : ℕ) → i < length rs → distinct rs ≡ true → new ≡ set rs i (with-packet f (row-at rs i)) → distinct new ≡ true
+distinct-packet f rs new i h d w = ap distinct w ∙ distinct-same rs i (with-packet f (row-at rs i)) (named-at rs i h) ∙ d
+
 -- another packet in the row of a name
-pub replace-row : (n : Name) (p : Packet) (rs new : List Row) (i : ℕ) → Holds n rs i → new ≡ set rs i (record { named = row-at rs i .named; packet = p })
-    → (gathered new ≡ insert n p (gathered rs)) × (distinct new ≡ distinct rs)
+pub replace-row : (n : Name) (p : Packet) (rs new : List Row) (i : ℕ) → Holds n rs i → new ≡ set rs i (record { named = row-at rs i .named; packet = p }) → gathered new ≡ insert n p (gathered rs)
 replace-row n p rs new i h e =
     let w : new ≡ set rs i (record { named = Some n; packet = p }) = e ∙ ap (λ (o : Option Name). set rs i (record { named = o; packet = p })) (holds-name n rs i h) in
-    (ap gathered w ∙ gathered-replace n p rs i h, ap distinct w ∙ distinct-same rs i (record { named = Some n; packet = p }) (holds-named n rs i h))
+    ap gathered w ∙ gathered-replace n p rs i h

@@ -4,14 +4,14 @@ use mathlib.Core.HLevel.{×-prop, isProp→PathP}
 use mathlib.Core.List.{List, [], _∷_}
 use mathlib.Core.Bool.{Bool, true, false, cond, Bool-set, true≢false}
 use mathlib.Core.Logic.{_⊎_, inl, inr}
-use Prim.Native.Nat.{ℕ, _+_, _≤_, _<_}
+use Prim.Native.Nat.{ℕ, _+_}
 use native.Mathlib.Omega.{arith}
-use lib.ListN.{length, set}
+use lib.ListN.{length}
 use Rattle.std.specs.declared.option.Option.{Option}
 use Rattle.std.specs.declared.option.Option.the-variants.{Some, None}
 use Rattle.store.specs.declared.name.Name.{Name}
-use Rattle.store.specs.Names.{earlier, same, earlier-trans, earlier-other, earlier-apart, same-equal, same-refl}
-use Rattle.store.specs.Packets.{Packet, Entry, Packets, lookupIn, insertIn, removeIn, usedIn, Above, Ascending, empty, lookup, insert, remove, used, alter, need-of, above-trans, with-byte, with-holder}
+use Rattle.store.specs.Names.{earlier, same, earlier-other, earlier-apart, same-equal, same-refl}
+use Rattle.store.specs.Packets.{Packet, Entry, Packets, lookupIn, insertIn, removeIn, usedIn, Above, Ascending, empty, lookup, insert, remove, used, alter, need-of, above-trans}
 
 -- ---- names
 pub same-or : (a b : Name) → (a ≡ b) ⊎ (same a b ≡ false)

@@ -1,14 +1,16 @@
 -- Tables of named records, and the map that a table means: row by row, each with a name or none, and a packet.
 use mathlib.Core.List.{List, [], _∷_}
 use mathlib.Core.Bool.{Bool, true, false, cond, not, _&&_}
-use Prim.Native.Nat.{ℕ, suc, _+_}
+use mathlib.Core.Path.{_≡_}
+use Prim.Native.Nat.{ℕ, suc, _+_, _<_}
+use Rattle.std.specs.Options.{isSome}
 use lib.ListN.{length, getD}
 use Rattle.std.specs.declared.option.Option.{Option}
 use Rattle.std.specs.declared.option.Option.the-variants.{Some, None}
 use Rattle.store.specs.declared.name.Name.{Name}
 use Rattle.store.specs.Names.{same}
 use Rattle.store.specs.Meaning.{Meaning}
-use Rattle.store.specs.Packets.{Packet, Packets, packet, empty, insert}
+use Rattle.store.specs.Packets.{Packet, Packets, packet, empty, insert, lookup}
 
 abbrev pub alike : Option Name → Option Name → Bool
 alike None None = true
@@ -77,6 +79,18 @@ with-packet f r = record { named = r .named; packet = f (r .packet) }
 -- the place of the first row of that name, or of the first free one
 abbrev pub place : Option Name → List Row → Option ℕ
 place o rs = position (λ r. r .named) o rs
+
+-- row i is the first of that name, and so has the name's packet
+pub record Lies (rs : List Row) (n : Name) (i : ℕ) : Type 0 where
+  pub within : i < length rs
+  pub row : Some i ≡ place (Some n) rs
+  pub alive : isSome (row-at rs i .named) ≡ true
+  pub packet : lookup n (gathered rs) ≡ Some (row-at rs i .packet)
+
+-- what a search for a name says of the map
+abbrev pub Sought : List Row → Name → Option ℕ → Type 0
+Sought rs n None = lookup n (gathered rs) ≡ None
+Sought rs n (Some i) = Lies rs n i
 
 -- what a store of such a table means
 abbrev pub meaning-of : List Row → ℕ → ℕ → (ℕ → ℕ) → Meaning

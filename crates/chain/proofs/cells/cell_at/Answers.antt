@@ -1,5 +1,5 @@
 use mathlib.Core.Path.{_≡_, _∙_, ap, sym}
-use Prim.Native.Nat.{ℕ, suc, _+_}
+use Prim.Native.Nat.{suc, _+_}
 use native.Mathlib.Omega.{arith}
 use Rattle.chain.specs.Cells.{step, nth-cell}
 use Rattle.chain.proofs.Linked.{nth-back}

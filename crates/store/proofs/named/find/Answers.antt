@@ -1,5 +1,4 @@
 use mathlib.Core.Path.{sym, _∙_, ap}
-use lib.ListN.{drop}
 use Rattle.std.proofs.shelf.Lists.{drop-all}
 use Rattle.store.specs.Rows.{position}
 use Rattle.store.proofs.Tables.{plus, position-hit, position-past}

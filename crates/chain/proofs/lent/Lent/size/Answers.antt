@@ -1,22 +1,18 @@
-use Prim.Native.Nat.{ℕ, suc, _+_, _*_, _-_, _/_, _%_, _<_, _≤_}
-use mathlib.Core.Path.{_≡_, refl, sym, _∙_, ap}
-use mathlib.Core.Bool.{true}
-use native.Mathlib.Omega.{arith}
 use borrow.Author.Needs.{needs}
-use lib.ListN.{length, length-set, getD, set, take, drop, replicate, length-take, length-drop}
-use Rattle.chain.specs.Cells.{step, nth-cell}
-use Rattle.chain.specs.Chains.{chain-need}
-use Rattle.store.specs.Rows.{Row}
 use Rattle.chain.proofs.Changes.{alive-within, row-size}
-use Rattle.chain.specs.Chains.{no-head}
 use Rattle.chain.proofs.lent.Lent.size.Needs as need
 
 pub offset-self-head : need.offset-self-head
 offset-self-head c =
-    let w = alive-within (c .args .self .now .heads .now) (c .args .self .now .links .now) (c .args .self .now .memory .now) (c .args .head) (c .pre .alive) in search needs
+    let l = c .args .self .now in
+    let w = alive-within (l .heads .now) (l .links .now) (l .memory .now) (c .args .head) (c .pre .alive) in search needs
 
 pub index-self-head : need.index-self-head
-index-self-head c = alive-within (c .args .self .now .heads .now) (c .args .self .now .links .now) (c .args .self .now .memory .now) (c .args .head) (c .pre .alive)
+index-self-head c =
+    let l = c .args .self .now in
+    alive-within (l .heads .now) (l .links .now) (l .memory .now) (c .args .head) (c .pre .alive)
 
 pub returns : need.returns
-returns c = row-size (c .args .self .now .heads .now) (c .args .self .now .links .now) (c .args .self .now .memory .now) (c .args .self .now .free) (c .args .self .now .spare) (c .args .head) (c .pre .sound) (c .pre .alive)
+returns c =
+    let l = c .args .self .now in
+    row-size (l .heads .now) (l .links .now) (l .memory .now) (l .free) (l .spare) (c .args .head) (c .pre .sound) (c .pre .alive)

@@ -4,8 +4,8 @@ use mathlib.Core.List.{List}
 use native.Mathlib.Omega.{arith}
 use borrow.Author.Needs.{needs}
 use borrow.Rule.Slice.PartMut.{putMid}
-use lib.ListN.{length, length-set, getD, set, take, drop, replicate, length-take, length-drop}
-use Rattle.chain.specs.Cells.{step, nth-cell, cells, cell-bytes, count}
+use lib.ListN.{length, take, drop, replicate, length-take, length-drop}
+use Rattle.chain.specs.Cells.{step, nth-cell, cells, count}
 use Rattle.chain.proofs.Linked.{nth-back}
 use Rattle.chain.proofs.Wiping.{Wiped, wiped-none, wiped-more, nth-inside}
 use Rattle.chain.proofs.lent.Lent.wipe.Needs as need

@@ -1,4 +1,3 @@
-use Prim.Native.Nat.{ℕ, _≤_}
 use mathlib.Core.Path.{_≡_}
 use Rattle.chain.specs.Cells.{nth-cell}
 use Rattle.chain.proofs.Wiping.{Wiped}

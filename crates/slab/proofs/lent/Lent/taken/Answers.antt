@@ -1,8 +1,8 @@
-use Prim.Native.Nat.{_+_, _≤_}
-use mathlib.Core.Path.{_≡_, sym, _∙_, ap}
+use mathlib.Core.Path.{sym, ap}
 use native.Mathlib.Omega.{arith}
 use Rattle.std.proofs.shelf.Lists.{drop-all}
 use Rattle.slab.proofs.Changes.{taken-slots, taken-more, one-some, one-none, total-rows}
+use Rattle.slab.proofs.Stored.{slab-units, slots-within}
 use Rattle.slab.proofs.lent.Lent.taken.Needs as need
 use Rattle.slab.proofs.lent.Lent.taken.Needs.{then-is-some, else-is-some}
 
@@ -18,7 +18,10 @@ loop-slot-again c =
 
 pub returns : need.returns
 returns c =
-    let e = ap taken-slots (drop-all (c .loop-slot .slot-index) (c .args .self .now .slots .now) (c .loop-slot-test .left)) in
-    let t = total-rows (c .args .self .now .slots .now) (c .args .self .now .memory .now) in
+    let l = c .args .self .now in
+    let e = ap taken-slots (drop-all (c .loop-slot .slot-index) (l .slots .now) (c .loop-slot-test .left)) in
+    let t = total-rows (l .slots .now) (l .memory .now) in
     let i = c .loop-slot .inv .0 in
-    omega arith
+    let u = slab-units l (c .pre) in
+    let w = slots-within l (c .pre) in
+    record { value = omega arith; within = omega arith }

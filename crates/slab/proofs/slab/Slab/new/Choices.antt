@@ -1,8 +1,0 @@
-use Prim.Native.Nat.{ℕ, _<_}
-use mathlib.Core.Path.{_≡_}
-use lib.ListN.{take}
-use Rattle.slab.proofs.Changes.{taken-slots}
-use Rattle.slab.proofs.slab.Slab.new.Given as given
-
-abbrev pub Inv-loop-slot : given.InvT-loop-slot
-Inv-loop-slot l = taken-slots (take (l .slot-index) (l .slots)) ≡ 0
