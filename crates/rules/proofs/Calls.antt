@@ -154,7 +154,7 @@ pub ended? : (r : Thread) → (r ≡ ended) ⊎ (r ≢ ended)
 ended? ended = inl refl
 ended? (running f fs) = inr (λ e. let z : _≡_ {A = ℕ} 0 1 = cc in omega arith)
 
-ended-stays : (s : State) (t : ℕ) → thread s t ≡ ended → ¬ Would-advance s t
+pub ended-stays : (s : State) (t : ℕ) → thread s t ≡ ended → ¬ Would-advance s t
 ended-stays s t e (s′, Step.moves (Moves.advances r)) = rule-runs r e
 
 -- whether a thread would advance
@@ -164,7 +164,7 @@ advance? s v t = ⊎-elim (λ e. inr (ended-stays s t e)) (λ ne. ⊎-elim (λ r
     waiting : {c : Cause} → Waits-for s t (thread s t) c → ¬ Would-advance s t
     waiting c (s′, Step.moves (Moves.advances r)) = cause-no-rule c r
 
-beyond : (s : State) (t : ℕ) → length (s .threads) < t → ¬ Would-advance s t
+pub beyond : (s : State) (t : ℕ) → length (s .threads) < t → ¬ Would-advance s t
 beyond s zero h (s′, Step.moves (Moves.advances r)) = rule-runs r refl
 beyond s (suc i) h (s′, Step.moves (Moves.advances r)) = let l = running-there (s .threads) i (rule-runs r) in omega arith
 

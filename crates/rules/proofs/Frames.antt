@@ -226,6 +226,10 @@ placed-kept run (at-node q c aw) (Rule.if-false h) = at-node q (sits-branch c .2
 pub room-top : {P : Program} {f p k : ℕ} {op : Operation} {as′ : List Operand} {next : Body} {vs : List Held} {fs : List Frame} → Placed P (running (frame f (call p op as′ k next) vs) fs) → length vs + k ≤ 16
 room-top {vs = vs} (at-node q c aw) = let a = sits-call c .3 .room in let b = length-map {B = Entry} vs type in omega arith
 
+pub room-results : {P : Program} {f p k : ℕ} {op : Operation} {as′ : List Operand} {next : Body} {ρs σs : List Ty} {vs : List Held} {fs : List Frame}
+    → Placed P (running (frame f (call p op as′ k next) vs) fs) → signature P op ≡ some (ρs ⇒ σs) → length vs + length σs ≤ 16
+room-results {vs = vs} (at-node q c aw) sg = let d = called c sg in let a = d .room in let e = d .count in let b = length-map {B = Entry} vs type in omega arith
+
 pub room-below : {P : Program} {f g p : ℕ} {F : Function} {as′ : List Operand} {next : Body} {vs us : List Held} {fs : List Frame}
     → Placed P (running (frame f (return p as′) vs) (frame g next us ∷ fs)) → getElem? (P .functions) f ≡ some F → length us + length (F .results) ≤ 16
 room-below (at-node q c (below qg lt rm cg aw)) e = let b = ap (λ (X : Function). length (X .results)) (same-some q e) in omega arith

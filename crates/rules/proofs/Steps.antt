@@ -5,6 +5,7 @@ use mathlib.Core.List.{List, [], _∷_, _++_}
 use mathlib.Core.Logic.{_≢_, _⊎_, inl, inr, ⊎-elim}
 use mathlib.Core.Option.{some}
 use Prim.Native.Nat.{ℕ, _≤_}
+use native.Mathlib.Decide.{decLe}
 use native.Mathlib.Omega.{arith}
 use lib.ListN.{length, getElem?}
 use Rattle.reader.specs.declared.types.Ty.{Ty}
@@ -16,12 +17,14 @@ use Rattle.reader.specs.Syntax.{Body, return, branch, call, Function, Program}
 use Rattle.typing.specs.Signatures.{_⇒_, signature}
 use Rattle.typing.specs.Typing.{Tail}
 use Rattle.rules.specs.State.{Held, truth, Frame, frame, Thread, ended, running, State, thread, Effect, apply}
-use Rattle.rules.specs.Rules.{Cause, Outcome, Advanced, Waits, Ended, Stuck, Give, Gives, Operates, Delays, Rule, Waits-for, Moves, advances, waits, has-ended, Step, moves, sticks}
+use Rattle.rules.specs.Rules.{Cause, Outcome, Advanced, Waits, Ended, Stuck, Give, Gives, Operates, Delays, Rule, Waits-for, Moves, advances, waits, has-ended, Step, moves, sticks, Would-advance}
 use Rattle.rules.specs.Calls.{Machine, Call, Reply, Does, Turn, Runs, at-rest, goes-on, last, Reached, by-call}
 use Rattle.rules.proofs.Frames.{Runnable, function-signature, Placed, at-node, awaits-length}
 use Rattle.rules.proofs.Invariant.{Sound, running-ended}
 use Rattle.rules.proofs.Progress.{next, cause-no-rule}
 use Rattle.rules.proofs.Same.{arguments-same}
+use Rattle.rules.proofs.Swap.{settled}
+use Rattle.rules.proofs.Calls.{ended-stays, beyond}
 
 -- The outcomes.
 pub advanced-by : (s : State) (t : ℕ) {r r′ : Thread} {e : Effect} → thread s t ≡ r → Rule s t r r′ e → Step s t Advanced (apply t r′ e s)
@@ -128,6 +131,19 @@ frame-function (at-node {F = F} q c aw) = (F, q)
 -- whether a thread that runs has a cause to wait
 pub cause? : (s : State) → Sound s → (t : ℕ) → thread s t ≢ ended → ((c : Cause) × Waits-for s t (thread s t) c) ⊎ ((c : Cause) → ¬ Waits-for s t (thread s t) c)
 cause? s v t ne = ⊎-elim (λ r. inr (λ c w. cause-no-rule w (r .2))) (λ c. inl c) (next s v t ne)
+
+-- a thread whose step has another outcome would not advance
+pub other-outcome : (s : State) → Sound s → (t : ℕ) (a : Outcome) (x : State) → Step s t a x → a ≢ Advanced → ¬ Would-advance s t
+other-outcome s v t a x w ne (y, z) = ne (settled s v t a Advanced x y w z .0)
+
+-- and none would if none of the program's threads would
+pub none-advances : (s : State) → Sound s → ((t : ℕ) → 1 ≤ t → t ≤ s .program .threads → ¬ Would-advance s t) → (t : ℕ) → ¬ Would-advance s t
+none-advances s v n t = go (decLe 1 t) (decLe t (s .program .threads))
+  where
+    go : Dec (1 ≤ t) → Dec (t ≤ s .program .threads) → ¬ Would-advance s t
+    go (yes a) (yes b) = n t a b
+    go (yes a) (no b) = beyond s t (let p = v .peopled in omega arith)
+    go (no a) d = subst (λ (u : ℕ). ¬ Would-advance s u) (let z : 0 ≡ t = omega arith in z) (ended-stays s 0 refl)
 
 -- One more call of a run.
 pub runs-more : {m m′ : Machine} {xs : List Turn} {c : Call} {r : Reply} → Runs m xs → Does (last m xs) c r m′ → Runs m (xs ++ (record { call = c; reply = r; after = m′ } ∷ []))
