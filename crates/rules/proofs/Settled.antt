@@ -10,23 +10,25 @@ use Rattle.std.specs.declared.option.Option.the-variants.{Some, None}
 use Rattle.std.specs.declared.result.Result.{Result}
 use Rattle.std.specs.declared.result.Result.the-variants.{Ok, Err}
 use Rattle.reader.specs.declared.faults.Fault.{Fault}
+use Rattle.reader.specs.Programs.{reading}
 use Rattle.reader.specs.Syntax.{Program}
 use Rattle.reader.proofs.Results.{ok-same}
 use Rattle.typing.specs.Layers.{verdict}
+use Rattle.typing.specs.Typing.{Accepted}
 use Rattle.typing.proofs.Whole.{bytes-decided}
 use Rattle.store.specs.declared.name.Name.{Name}
 use Rattle.store.specs.Packets.{Packet, lookup}
 use Rattle.store.specs.Meaning.{Meaning, units}
 use Rattle.rules.specs.State.{State, thread, queue, made, packets, affected, popping}
 use Rattle.rules.specs.Rules.{Outcome, Room-for, Step, moves, has-ended}
-use Rattle.rules.specs.Calls.{Question, Machine, unloaded, loaded, Call, load, arrive, step, ready, collect, Reply, to-collect, initial, copied, denied, Denies, Does}
+use Rattle.rules.specs.Calls.{Question, Machine, unloaded, loaded, Call, load, arrive, step, ready, collect, Reply, to-load, to-collect, initial, copied, denied, Denies, Does}
 use Rattle.rules.specs.Calls.{arrive-first, step-first, ready-first, collect-first, loaded-already, no-names, in-use, no-thread, too-long, all-waiting, all-named, no-room, nothing-sent, too-small, denies, faults, loads, arrives, steps, finds, finds-none, collects}
-use Rattle.rules.specs.Promises.{occurs, Calls-answered, Calls-settled}
+use Rattle.rules.specs.Promises.{occurs, Calls-answered, Calls-settled, Loads-accepted}
 use Rattle.rules.proofs.Counts.{present-some, total-getD, is-same, some-same}
 use Rattle.rules.proofs.Invariant.{Sound}
 use Rattle.rules.proofs.Progress.{goes-on-stands}
 use Rattle.rules.proofs.Swap.{settled}
-use Rattle.rules.proofs.Calls.{ended?, ready-tells, Good, reached-good}
+use Rattle.rules.proofs.Calls.{runnable, ended?, ready-tells, Good, reached-good}
 
 abbrev Answered : Machine → Call → Type 0
 Answered m c = (r : Reply) × (m′ : Machine) × Does m c r m′
@@ -40,6 +42,18 @@ load-answered m b l = go (decLe 1 l) (decLt 0 (units m)) (verdict b) refl
     go (yes y) (yes u) v e = (_, _, denies (in-use y u) refl)
     go (yes y) (no n) (Err f) e = (_, _, faults y (omega arith) e)
     go (yes y) (no n) (Ok tt) e = let (P, r, a) = bytes-decided b .0 e in (_, _, loads y (omega arith) e r)
+
+abbrev Granted : Meaning → List ℕ → ℕ → State → Type 0
+Granted m b l s = (1 ≤ l) × (units m ≡ 0) × (P : Program) × (reading b ≡ Ok P) × Accepted P × (s ≡ initial P l m)
+
+load-granted : {m : Meaning} {b : List ℕ} {l : ℕ} {s : State} → Does (unloaded m) (load b l) (to-load (Ok tt)) (loaded s) → Granted m b l s
+load-granted {b = b} (loads {P = P} h z v r) = (h, z, P, r, runnable b P v r .accepted, refl)
+
+pub loads-accepted : Loads-accepted
+loads-accepted m b l s = (load-granted, back)
+  where
+    back : Granted m b l s → Does (unloaded m) (load b l) (to-load (Ok tt)) (loaded s)
+    back (h, z, P, r, a, e) = subst (λ (x : State). Does (unloaded m) (load b l) (to-load (Ok tt)) (loaded x)) (sym e) (loads h z (bytes-decided b .1 (P, r, a)) r)
 
 -- Step.
 step-exists : (s : State) → Sound s → (t : ℕ) → (a : Outcome) × (s′ : State) × Step s t a s′

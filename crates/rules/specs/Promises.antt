@@ -3,21 +3,22 @@ use mathlib.Core.Bool.{true, false}
 use mathlib.Core.List.{List, [], _∷_}
 use mathlib.Core.Logic.{_≢_, _⊎_, _↔_}
 use mathlib.Core.Path.{_≡_}
-use Prim.Native.Nat.{ℕ, _+_}
+use Prim.Native.Nat.{ℕ, _+_, _≤_}
 use Rattle.std.specs.declared.option.Option.{Option}
 use Rattle.std.specs.declared.option.Option.the-variants.{Some, None}
 use Rattle.std.specs.declared.result.Result.the-variants.{Ok}
 use Rattle.reader.specs.declared.values.Operand.{Operand}
 use Rattle.reader.specs.declared.operations.Operation.the-variants as o
-use Rattle.reader.specs.Syntax.{Body, call}
-use Rattle.typing.specs.Typing.{Every}
+use Rattle.reader.specs.Programs.{reading}
+use Rattle.reader.specs.Syntax.{Body, call, Program}
+use Rattle.typing.specs.Typing.{Every, Accepted}
 use Rattle.store.specs.declared.name.Name.{Name}
 use Rattle.store.specs.Names.{same}
 use Rattle.store.specs.Packets.{Packet, lookup}
-use Rattle.store.specs.Meaning.{Meaning}
+use Rattle.store.specs.Meaning.{Meaning, units}
 use Rattle.rules.specs.State.{Held, owner, alias, Frame, frame, Thread, ended, running, State, thread, frames, packets}
 use Rattle.rules.specs.Rules.{Cause, Outcome, Advanced, Waits, Stuck, Waits-for, Step, Would-advance}
-use Rattle.rules.specs.Calls.{Machine, unloaded, loaded, Call, ready, Reply, to-ready, Does, Turn, Runs, Needy, Reached}
+use Rattle.rules.specs.Calls.{Machine, unloaded, loaded, Call, load, ready, Reply, to-load, to-ready, initial, Does, Turn, Runs, Needy, Reached}
 
 -- x stands in a list
 pub data Among {A : Type 0} (x : A) : List A → Type 0 where
@@ -141,6 +142,12 @@ Runs-keep = (m : Meaning) → Needy m → (xs : List Turn) → Runs (unloaded m)
 -- The same call by call, for the contract of each.
 abbrev pub Calls-keep : Type 0
 Calls-keep = (m m′ : Machine) (c : Call) (r : Reply) → Reached m → Does m c r m′ → Reached m′ × Promised m′
+
+-- A load is granted exactly where no question of the machine is answered no and the bytes read as an accepted program, and leaves its first state.
+abbrev pub Loads-accepted : Type 0
+Loads-accepted = (m : Meaning) (b : List ℕ) (l : ℕ) (s : State)
+    → Does (unloaded m) (load b l) (to-load (Ok tt)) (loaded s)
+    ↔ ((1 ≤ l) × (units m ≡ 0) × (P : Program) × (reading b ≡ Ok P) × Accepted P × (s ≡ initial P l m))
 
 -- Every call of such a machine is answered,
 abbrev pub Calls-answered : Type 0
