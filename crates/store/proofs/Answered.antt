@@ -1,5 +1,5 @@
 -- What calls answer and leave, once it is known what the name stands for.
-use mathlib.Core.Path.{_≡_, sym, ap}
+use mathlib.Core.Path.{_≡_, refl, sym, ap}
 use Prim.Native.Nat.{ℕ, _+_, _≤_, _<_}
 use lib.ListN.{length, getD}
 use Rattle.std.specs.declared.option.Option.{Option}
@@ -9,7 +9,7 @@ use Rattle.std.proofs.shelf.Tests.{le-leb, lt-leb, lt-ltb, le-ltb}
 use Rattle.store.specs.declared.name.Name.{Name}
 use Rattle.store.specs.declared.denial.Question.{Question}
 use Rattle.store.specs.declared.denial.Question.the-variants.{Unused, Fits, Room, Alive, Inside}
-use Rattle.store.specs.Packets.{Packet, insert, remove, new-packet, with-byte, with-holder}
+use Rattle.store.specs.Packets.{Packet, Packets, insert, remove, new-packet, with-byte, with-holder}
 use Rattle.store.specs.Meaning.{Meaning, with-packets, found, units, answer, after, make-no, make-answer, make-after, discard-answer, discard-after, handed, hand-answer, hand-after, size-answer, holder-answer, write-answer, write-after, read-answer}
 
 module _ (m : Meaning) (n : Name) where
@@ -82,3 +82,14 @@ module _ (m : Meaning) (n : Name) where
 
   pub make-granted : (size : ℕ) → make-no m n size ≡ None → (Ok tt ≡ make-answer m n size) × (with-packets m (insert n (new-packet n size) (m .packets)) ≡ make-after m n size)
   make-granted size e = (ap (λ (o : Option Question). answer {X = Unit {0}} o tt) (sym e), ap (λ (o : Option Question). after o m (insert n (new-packet n size) (m .packets))) (sym e))
+
+-- ---- largest, capacity and need never change
+module _ (o : Option Question) (m : Meaning) (ps : Packets) where
+  pub same-largest : after o m ps .largest ≡ m .largest
+  same-largest = elim o as (λ x. after x m ps .largest ≡ m .largest) [ None ↦ refl | Some q ↦ refl ]
+
+  pub same-capacity : after o m ps .capacity ≡ m .capacity
+  same-capacity = elim o as (λ x. after x m ps .capacity ≡ m .capacity) [ None ↦ refl | Some q ↦ refl ]
+
+  pub same-need : after o m ps .need ≡ m .need
+  same-need = elim o as (λ x. after x m ps .need ≡ m .need) [ None ↦ refl | Some q ↦ refl ]
