@@ -1,4 +1,6 @@
 //! The check of a program: three layers of questions, the first no decides.
+#![tactic(auto)]
+
 mod asks;
 mod bodies;
 mod functions;

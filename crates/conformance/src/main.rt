@@ -1,5 +1,7 @@
 //! Replays recorded cases: each line of standard input is a program in hexadecimal, each line written its verdict.
 //! The stored answers come from a checker that shares nothing with this one.
+#![tactic(auto)]
+
 use anyhow::anyhow;
 use std::io::{BufRead, BufReader};
 

@@ -1,4 +1,6 @@
 //! The command `paclang`: checks and lists encoded programs.
+#![tactic(auto)]
+
 mod checking;
 mod judging;
 mod listing;

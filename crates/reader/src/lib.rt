@@ -1,5 +1,7 @@
 //! Reading encoded programs: fields, values, nodes, bodies, records and whole programs.
 //! Everything is read from the caller's bytes, which are never copied.
+#![tactic(auto)]
+
 pub mod bodies;
 pub mod faults;
 pub mod fields;

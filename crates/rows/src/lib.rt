@@ -1,2 +1,4 @@
 //! Short rows of plain values, in memory of their own.
+#![tactic(auto)]
+
 pub mod row;

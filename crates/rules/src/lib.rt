@@ -1,4 +1,6 @@
 //! The rules that a machine goes by: its states, the steps of its threads, its calls, and what they keep.
+#![tactic(auto)]
+
 ghost use Rattle.rules.specs.Cases.{Cases};
 ghost use Rattle.rules.specs.Promises.{RunsKeep, CallsKeep, CallsAnswered, CallsSettled, LoadsAccepted};
 

@@ -1,4 +1,6 @@
 // The stores on examples. A function that owns a split is generic over its stores: the prover does not cover one that owns a split of stores over lent memory.
+#![tactic(auto)]
+
 #[cfg(test)]
 mod tests {
     use chain::{Chain, Head};

@@ -1,4 +1,6 @@
 //! The type system of the language, and the theorem that ties the questions put to a program to it.
+#![tactic(auto)]
+
 ghost use Rattle.typing.specs.Cases.{Cases, MoreCases};
 ghost use Rattle.typing.specs.Theorems.{BodiesDecided, ProgramsDecided, BytesDecided, EncodingsDecided};
 

@@ -1,4 +1,6 @@
 //! Verdicts as they are printed.
+#![tactic(auto)]
+
 ghost use Rattle.std.specs.Prelude.{◌≡◌, IfOk, string_bytes};
 ghost use Rattle.typing.specs.Layers.{verdict};
 ghost use Rattle.verdicts.specs.Lines.{row, written};
