@@ -43,13 +43,13 @@ body-sits {P} a i F e =
 -- Node by node.
 pub sits-return : {P : Program} {F : Function} {Γ : Ctx} {p : ℕ} {as' : List Operand} → Sits P F Γ (return p as') → (Δ : Ctx) × Leaves Δ Γ as' F.results × (owners Δ ≡ 0)
 sits-return {P} {F} {Γ} {p} {as'} c =
-    let n = (by_node P F.results Γ (return p as')).0 c.type-inv in
+    let n = (by_node P F.results Γ (return p as')).0 c.typed in
     (n.left, uses-leave n.uses, spent-owners n.left n.spent)
 
 pub sits-branch : {P : Program} {F : Function} {Γ : Ctx} {p : ℕ} {a : Operand} {e₁ e₂ : Body} → Sits P F Γ (branch p a e₁ e₂)
     → Leave Γ Γ a.value bool Γ × Sits P F Γ e₁ × Sits P F Γ e₂
 sits-branch {P} {F} {Γ} {p} {a} {e₁} {e₂} c =
-    let n = (by_node P F.results Γ (branch p a e₁ e₂)).0 c.type-inv in (
+    let n = (by_node P F.results Γ (branch p a e₁ e₂)).0 c.typed in (
       tested-leave n.tested,
       record { typed = n.then_first; room = c.room.0; deep = c.deep.0 },
       record { typed = n.or_second; room = c.room.1; deep = c.deep.1 },
@@ -70,7 +70,7 @@ grown Γ Δ σs k a b = let c = length-append Δ (map has σs) in let d = length
 pub sits-call : {P : Program} {F : Function} {Γ : Ctx} {p : ℕ} {op : Operation} {as' : List Operand} {k : ℕ} {next : Body} → Sits P F Γ (call p op as' k next)
     → (ρs : List Ty) × (σs : List Ty) × (signature P op ≡ some (ρs ⇒ σs)) × Called P F Γ op as' k next ρs σs
 sits-call {P} {F} {Γ} {p} {op} {as'} {k} {next} c =
-    let n = (by_node P F.results Γ (call p op as' k next)).0 c.type-inv in
+    let n = (by_node P F.results Γ (call p op as' k next)).0 c.typed in
     let m = grown Γ n.left n.results k (uses-length n.uses) n.count in (
       n.params,
       n.results,

@@ -6,4 +6,4 @@ use Rattle.chain.proofs.cells.cell_at.Goals as goal
 pub loop-preserved : goal.loop-preserved
 loop-preserved c =
     let w : suc c.loop.counter ≡ c.loop.counter + 1 = omega arith in
-    c.next-cell-cell.ensures ∙ ap (step c.args.links.now) c.loop.invariant ∙ sym (nth_back c.args.links.now c.args.first c.loop.counter) ∙ ap (nth_cell c.args.links.now c.args.first) w
+    c.next_cell-cell.ensures ∙ ap (step c.args.links.now) c.loop.invariant ∙ sym (nth_back c.args.links.now c.args.first c.loop.counter) ∙ ap (nth_cell c.args.links.now c.args.first) w

@@ -13,7 +13,7 @@ loop-i-preserved g c = λ a b.
     let from = g.X.Store.meaning c.args.from.now in (
       c.write.ensures.stays old.0,
       carried_more from (g.Y.Store.meaning c.args.to.now) (g.Y.Store.meaning c.loop-i.to) (g.Y.Store.meaning c.write.new.self) c.args.name c.args.size c.loop-i.i _ old.1 c.loop-i-test.true
-          (λ p e l. c.unwrap-or-byte.ensures ∙ ap (λ r. result_unwrap_or r 0) (c.read.ensures a) ∙ byte_read from c.args.name c.loop-i.i p e (omega (arith, c.loop-i-test.true)))
+          (λ p e l. c.unwrap_or-byte.ensures ∙ ap (λ r. result_unwrap_or r 0) (c.read.ensures a) ∙ byte_read from c.args.name c.loop-i.i p e (omega (arith, c.loop-i-test.true)))
           (c.write.ensures.after old.0),
     )
 

@@ -4,17 +4,17 @@ use Rattle.store.specs.Rows.{position}
 use Rattle.store.proofs.Tables.{plus, position-hit, position_past}
 use Rattle.store.proofs.named.find.Goals as goal
 
-pub returns-then-same-name : goal.returns-then-same-name
-returns-then-same-name g c =
+pub returns-then-same_name : goal.returns-then-same_name
+returns-then-same_name g c =
     let f = g.R.Named.named in
     sym (position-hit f c.args.name c.args.records.now c.loop-i.i c.index-records-i.result c.loop-i-test.true c.index-records-i.is c.loop-i.invariant
-    (rw c.name.ensures at (sym c.if-same-name.ensures)))
+    (rw c.name.ensures at (sym c.if-same_name.ensures)))
 
 pub loop-i-preserved : goal.loop-i-preserved
 loop-i-preserved g c =
     let f = g.R.Named.named in
     position_past f c.args.name c.args.records.now c.loop-i.i c.index-records-i.result c.loop-i-test.true c.index-records-i.is c.loop-i.invariant
-    (rw c.name.ensures at (sym c.if-same-name.ensures))
+    (rw c.name.ensures at (sym c.if-same_name.ensures))
 
 pub returns : goal.returns
 returns g c =

@@ -8,8 +8,8 @@ use Rattle.chain.specs.Lents.{rows}
 use Rattle.chain.proofs.Stored.{row_of_head}
 use Rattle.chain.proofs.lent.Lent.hand.Goals as goal
 
-pub offset-bounds-self-head : goal.offset-bounds-self-head
-offset-bounds-self-head c =
+pub offset_bounds-self-head : goal.offset_bounds-self-head
+offset_bounds-self-head c =
     let l = c.args.self.now in
     let w = alive-within l.heads.now l.links.now l.memory.now c.args.head c.requires.alive in search rules
 
@@ -18,8 +18,8 @@ bounds-self-head c =
     let l = c.args.self.now in
     alive-within l.heads.now l.links.now l.memory.now c.args.head c.requires.alive
 
-pub offset-bounds-self-head-2 : goal.offset-bounds-self-head-2
-offset-bounds-self-head-2 c =
+pub offset_bounds-self-head-2 : goal.offset_bounds-self-head-2
+offset_bounds-self-head-2 c =
     let l = c.args.self.now in
     let w = alive-within l.heads.now l.links.now l.memory.now c.args.head c.requires.alive in search rules
 

@@ -2,8 +2,8 @@ use Rattle.std.proofs.Common.{rules}
 use Rattle.chain.proofs.Changes.{alive-within, row_size}
 use Rattle.chain.proofs.lent.Lent.size.Goals as goal
 
-pub offset-bounds-self-head : goal.offset-bounds-self-head
-offset-bounds-self-head c =
+pub offset_bounds-self-head : goal.offset_bounds-self-head
+offset_bounds-self-head c =
     let l = c.args.self.now in
     let w = alive-within l.heads.now l.links.now l.memory.now c.args.head c.requires.alive in search rules
 

@@ -2,8 +2,8 @@ use Rattle.std.proofs.Common.{ℕ, ◌+◌, ◌*◌, ◌%◌, ap, rules}
 use Rattle.chain.proofs.Changes.{alive-within, bytes-alive, at_spot}
 use Rattle.chain.proofs.lent.Lent.spot.Goals as goal
 
-pub offset-bounds-self-head : goal.offset-bounds-self-head
-offset-bounds-self-head c =
+pub offset_bounds-self-head : goal.offset_bounds-self-head
+offset_bounds-self-head c =
     let l = c.args.self.now in
     let w = alive-within l.heads.now l.links.now l.memory.now c.args.head (bytes-alive l.heads.now l.links.now l.memory.now c.args.head c.args.offset c.requires.inside) in search rules
 
@@ -12,13 +12,13 @@ bounds-self-head c =
     let l = c.args.self.now in
     alive-within l.heads.now l.links.now l.memory.now c.args.head (bytes-alive l.heads.now l.links.now l.memory.now c.args.head c.args.offset c.requires.inside)
 
-pub overflow-mul-result : goal.overflow-mul-result
-overflow-mul-result c =
+pub overflow_mul-result : goal.overflow_mul-result
+overflow_mul-result c =
     let l = c.args.self.now in
     let s = (at_spot l.heads.now l.links.now l.memory.now l.free l.spare c.args.head c.requires.sound c.args.offset c.requires.inside c.cell.result c.cell.ensures).0 in search rules
 
-pub overflow-add-result : goal.overflow-add-result
-overflow-add-result c =
+pub overflow_add-result : goal.overflow_add-result
+overflow_add-result c =
     let l = c.args.self.now in
     let s = (at_spot l.heads.now l.links.now l.memory.now l.free l.spare c.args.head c.requires.sound c.args.offset c.requires.inside c.cell.result c.cell.ensures).0 in search rules
 

@@ -5,16 +5,16 @@ use Rattle.chain.proofs.Changes.{needs_more, if_some, if_none}
 use Rattle.chain.specs.Chains.{no_head}
 use Rattle.chain.proofs.Stored.{chain-units}
 use Rattle.chain.proofs.lent.Lent.taken.Goals as goal
-use Rattle.chain.proofs.lent.Lent.taken.Goals.{then-is-some, else-is-some}
+use Rattle.chain.proofs.lent.Lent.taken.Goals.{then-is_some, else-is_some}
 
 pub loop-head-preserved : goal.loop-head-preserved
 loop-head-preserved c =
     let l = c.args.self.now in
     let m = needs_more l.heads.now c.loop-head.head-index c.loop-head-test.true in
     let i = c.loop-head.invariant in
-    elim c.if-is-some.branch [
-      | then-is-some w ↦ let o = if_some (get_or l.heads.now c.loop-head.head-index no_head).name (get_or l.heads.now c.loop-head.head-index no_head).size (sym w.if-is-some.ensures) in let e = w.sum-is in let v = w.cells-for-sum.ensures.value in omega arith
-      | else-is-some w ↦ let o = if_none (get_or l.heads.now c.loop-head.head-index no_head).name (get_or l.heads.now c.loop-head.head-index no_head).size (sym w.if-is-some.ensures) in let e = w.sum-is in omega arith
+    elim c.if-is_some.branch [
+      | then-is_some w ↦ let o = if_some (get_or l.heads.now c.loop-head.head-index no_head).name (get_or l.heads.now c.loop-head.head-index no_head).size (sym w.if-is_some.ensures) in let e = w.sum-is in let v = w.cells_for-sum.ensures.value in omega arith
+      | else-is_some w ↦ let o = if_none (get_or l.heads.now c.loop-head.head-index no_head).name (get_or l.heads.now c.loop-head.head-index no_head).size (sym w.if-is_some.ensures) in let e = w.sum-is in omega arith
     ]
 
 pub returns : goal.returns

@@ -13,14 +13,14 @@ fits links memory changed first k amount cell lt w e l = let n = nth_inside link
 pub loop-init : goal.loop-init
 loop-init c = (refl, (wiped_none c.args.self.now.links.now c.args.first c.args.self.now.memory.now, (refl, (refl, refl))))
 
-pub overflow-mul-start : goal.overflow-mul-start
-overflow-mul-start c = let f = fits c.args.self.now.links.now c.args.self.now.memory.now c.loop.self.memory.now c.args.first c.loop.counter c.args.amount c.loop.cell c.loop-test.true c.requires c.loop.invariant.0 c.loop.invariant.1.0.long in search rules
+pub overflow_mul-start : goal.overflow_mul-start
+overflow_mul-start c = let f = fits c.args.self.now.links.now c.args.self.now.memory.now c.loop.self.memory.now c.args.first c.loop.counter c.args.amount c.loop.cell c.loop-test.true c.requires c.loop.invariant.0 c.loop.invariant.1.0.long in search rules
 
-pub overflow-add-start : goal.overflow-add-start
-overflow-add-start c = let f = fits c.args.self.now.links.now c.args.self.now.memory.now c.loop.self.memory.now c.args.first c.loop.counter c.args.amount c.loop.cell c.loop-test.true c.requires c.loop.invariant.0 c.loop.invariant.1.0.long in search rules
+pub overflow_add-start : goal.overflow_add-start
+overflow_add-start c = let f = fits c.args.self.now.links.now c.args.self.now.memory.now c.loop.self.memory.now c.args.first c.loop.counter c.args.amount c.loop.cell c.loop-test.true c.requires c.loop.invariant.0 c.loop.invariant.1.0.long in search rules
 
-pub slice-bounds-clear-end : goal.slice-bounds-clear-end
-slice-bounds-clear-end c = let f = fits c.args.self.now.links.now c.args.self.now.memory.now c.loop.self.memory.now c.args.first c.loop.counter c.args.amount c.loop.cell c.loop-test.true c.requires c.loop.invariant.0 c.loop.invariant.1.0.long in search rules
+pub slice_bounds-clear-end : goal.slice_bounds-clear-end
+slice_bounds-clear-end c = let f = fits c.args.self.now.links.now c.args.self.now.memory.now c.loop.self.memory.now c.args.first c.loop.counter c.args.amount c.loop.cell c.loop-test.true c.requires c.loop.invariant.0 c.loop.invariant.1.0.long in search rules
 
 pub loop-preserved : goal.loop-preserved
 loop-preserved c =

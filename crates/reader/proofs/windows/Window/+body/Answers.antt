@@ -2,11 +2,11 @@ use Rattle.std.proofs.Common.{rules}
 use Rattle.reader.proofs.Following.{body_is}
 use Rattle.reader.proofs.windows.Window.+body.Goals as goal
 
-pub returns-in-err-node : goal.returns-in-err-node
-returns-in-err-node t c = let s = c.args.self.now in rw (body_is s.bytes.now s.end s.function c.args.ifs c.args.place) (search rules)
+pub returns-in_err-node : goal.returns-in_err-node
+returns-in_err-node t c = let s = c.args.self.now in rw (body_is s.bytes.now s.end s.function c.args.ifs c.args.place) (search rules)
 
-pub returns-in-err-second : goal.returns-in-err-second
-returns-in-err-second t c = let s = c.args.self.now in rw (body_is s.bytes.now s.end s.function c.args.ifs c.args.place) (search rules)
+pub returns-in_err-second-in-Branch : goal.returns-in_err-second-in-Branch
+returns-in_err-second-in-Branch t c = let s = c.args.self.now in rw (body_is s.bytes.now s.end s.function c.args.ifs c.args.place) (search rules)
 
 pub returns-then-second-next : goal.returns-then-second-next
 returns-then-second-next t c = let s = c.args.self.now in rw (body_is s.bytes.now s.end s.function c.args.ifs c.args.place) (search rules)

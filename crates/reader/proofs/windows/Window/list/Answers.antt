@@ -6,7 +6,7 @@ pub returns : goal.returns
 returns c =
     let s = c.args.self.now in
     record {
-      reads = list_stands s.bytes.now s.end s.function c.args.place c.in-ok-count.count c.in-ok-count.first c.in-ok-next.next
-          (sym c.in-ok-count.ensures.reads) (sym c.in-ok-next.ensures.reads);
+      reads = list_stands s.bytes.now s.end s.function c.args.place c.in_ok-count.count c.in_ok-count.first c.in_ok-next.next
+          (sym c.in_ok-count.ensures.reads) (sym c.in_ok-next.ensures.reads);
       onward = search rules;
     }

@@ -4,4 +4,4 @@ use Rattle.reader.specs.Programs.{types_at}
 use Rattle.reader.proofs.windows.Window.types.Given as goal
 
 abbrev pub invariant-loop-i : goal.invariant-loop-i
-invariant-loop-i l = placed (In l.self types_at (l.count - l.-i) l.next) ≡ placed (In l.self types_at l.count l.place)
+invariant-loop-i l = placed (In l.self types_at (l.count - l._i) l.next) ≡ placed (In l.self types_at l.count l.place)

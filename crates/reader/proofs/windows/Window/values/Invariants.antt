@@ -4,6 +4,6 @@ use Rattle.reader.proofs.windows.Window.values.Given as goal
 
 abbrev pub invariant-loop-i : goal.invariant-loop-i
 invariant-loop-i l =
-    (placed (In l.self values_at (l.count - l.-i) l.next) ≡ placed (In l.self values_at l.count l.place))
+    (placed (In l.self values_at (l.count - l._i) l.next) ≡ placed (In l.self values_at l.count l.place))
     × (l.place ≤ l.next)
     × (l.place ≤ l.self.end → l.next ≤ l.self.end)

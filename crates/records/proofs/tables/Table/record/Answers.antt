@@ -12,5 +12,5 @@ returns-then-function-self c P h =
 pub returns : goal.returns
 returns c P h =
     let t = c.args.self.now in
-    recorded t.program.now P t.header.functions c.args.function c.from.result t.places c.glance-at.result c.ok.result
-    h.reads (ap (λ (g : Header). g.functions) h.counts) h.standing c.if-function-self.false c.from.ensures c.glance-at.ensures c.ok.ensures.value
+    recorded t.program.now P t.header.functions c.args.function c.from.result t.places c.glance_at.result c.ok.result
+    h.reads (ap (λ (g : Header). g.functions) h.counts) h.standing c.if-function-self.false c.from.ensures c.glance_at.ensures c.ok.ensures.value

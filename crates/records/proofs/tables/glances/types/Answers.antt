@@ -11,18 +11,18 @@ loop-i-init c =
 pub loop-i-preserved : goal.loop-i-preserved
 loop-i-preserved c =
     let w = c.args.window.now in
-    types-step w.bytes.now w.end w.function 8 c.args.count c.loop-i.-i c.loop-i.next c.in-ok-ty.after c.in-ok-ty.ty
+    types-step w.bytes.now w.end w.function 8 c.args.count c.loop-i._i c.loop-i.next c.in_ok-ty.after c.in_ok-ty.ty
     (items c.loop-i.types) (items c.push.new.self) _ c.push.result (omega arith) c.requires c.push.ensures.room c.push.ensures.after
-    c.in-ok-ty.ensures.reads c.loop-i.invariant
+    c.in_ok-ty.ensures.reads c.loop-i.invariant
 
-pub returns-in-err-ty : goal.returns-in-err-ty
-returns-in-err-ty c =
+pub returns-in_err-ty : goal.returns-in_err-ty
+returns-in_err-ty c =
     let w = c.args.window.now in
-    let h = types_break w.bytes.now w.end w.function c.args.count c.loop-i.-i c.loop-i.next c.in-err-ty.field-0.0
-    (items c.loop-i.types) _ (omega arith) c.in-err-ty.ensures.reads c.loop-i.invariant.0 in
+    let h = types_break w.bytes.now w.end w.function c.args.count c.loop-i._i c.loop-i.next c.in_err-ty.field-0.0
+    (items c.loop-i.types) _ (omega arith) c.in_err-ty.ensures.reads c.loop-i.invariant.0 in
     search rules
 
 pub returns : goal.returns
 returns c =
     let w = c.args.window.now in
-    types-last w.bytes.now w.end w.function c.args.count c.loop-i.-i c.loop-i.next (items c.loop-i.types) _ (omega arith) c.loop-i.invariant.0
+    types-last w.bytes.now w.end w.function c.args.count c.loop-i._i c.loop-i.next (items c.loop-i.types) _ (omega arith) c.loop-i.invariant.0

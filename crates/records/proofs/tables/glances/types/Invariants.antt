@@ -7,5 +7,5 @@ use Rattle.records.proofs.tables.glances.types.Given as goal
 
 abbrev pub invariant-loop-i : goal.invariant-loop-i
 invariant-loop-i l =
-    (joined (items l.types) (In l.window types_at (l.count - l.-i) l.next) ≡ In l.window types_at l.count l.place)
-    × (length (items l.types) ≡ l.-i)
+    (joined (items l.types) (In l.window types_at (l.count - l._i) l.next) ≡ In l.window types_at l.count l.place)
+    × (length (items l.types) ≡ l._i)

@@ -10,8 +10,8 @@ pub loop-i-preserved : goal.loop-i-preserved
 loop-i-preserved c =
     let b = c.args.program.now in
     let l : c.args.count ≤ length c.loop-i.places = omega (arith, c.requires, c.loop-i.invariant.1) in (
-      starts-step b (length b) c.args.count c.loop-i.i c.from.result c.loop-i.place c.place-after-place.result c.loop-i.places _
-          (omega arith) l c.from.ensures c.place-after-place.ensures c.loop-i.invariant.0,
+      starts-step b (length b) c.args.count c.loop-i.i c.from.result c.loop-i.place c.place_after-place.result c.loop-i.places _
+          (omega arith) l c.from.ensures c.place_after-place.ensures c.loop-i.invariant.0,
       length-set c.loop-i.places c.from.result c.loop-i.place ∙ c.loop-i.invariant.1,
     )
 

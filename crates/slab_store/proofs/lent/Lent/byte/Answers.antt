@@ -2,8 +2,8 @@ use Rattle.std.proofs.Common.{rules}
 use Rattle.slab_store.proofs.Changes.{bytes-within, byte_is}
 use Rattle.slab_store.proofs.lent.Lent.byte.Goals as goal
 
-pub overflow-add-result : goal.overflow-add-result
-overflow-add-result c =
+pub overflow_add-result : goal.overflow_add-result
+overflow_add-result c =
     let l = c.args.self.now in
     let w = bytes-within l.slots.now l.memory.now c.args.slot c.requires.within c.requires.whole c.args.offset c.requires.inside in
     search rules

@@ -7,8 +7,8 @@ use Rattle.slab_store.proofs.Changes.{bytes-within, rows-put}
 use Rattle.slab_store.proofs.Stored.{row_of_slot}
 use Rattle.slab_store.proofs.lent.Lent.put.Goals as goal
 
-pub overflow-add-self : goal.overflow-add-self
-overflow-add-self c =
+pub overflow_add-self : goal.overflow_add-self
+overflow_add-self c =
     let l = c.args.self.now in
     let w = bytes-within l.slots.now l.memory.now c.args.slot c.requires.within c.requires.whole c.args.offset c.requires.inside in
     search rules

@@ -3,16 +3,16 @@ use Rattle.std.proofs.lemmas.List.{drop_all}
 use Rattle.slab_store.proofs.Changes.{taken_slots, taken_more, one_some, one_none, total-rows}
 use Rattle.slab_store.proofs.Stored.{slab_units, slots_within}
 use Rattle.slab_store.proofs.lent.Lent.taken.Goals as goal
-use Rattle.slab_store.proofs.lent.Lent.taken.Goals.{then-is-some, else-is-some}
+use Rattle.slab_store.proofs.lent.Lent.taken.Goals.{then-is_some, else-is_some}
 
 pub loop-slot-preserved : goal.loop-slot-preserved
 loop-slot-preserved c =
     let m = taken_more c.args.self.now.slots.now c.loop-slot.slot-index c.slot-item.result c.loop-slot-test.true c.slot-item.is in
     let i = c.loop-slot.invariant.0 in
     let k = c.loop-slot.invariant.1 in
-    elim c.if-is-some.branch [
-      | then-is-some w ↦ let o = one_some c.slot-item.result.name (sym w.if-is-some.ensures) in let e = w.sum-is in (omega arith, omega arith)
-      | else-is-some w ↦ let o = one_none c.slot-item.result.name (sym w.if-is-some.ensures) in let e = w.sum-is in (omega arith, omega arith)
+    elim c.if-is_some.branch [
+      | then-is_some w ↦ let o = one_some c.slot-item.result.name (sym w.if-is_some.ensures) in let e = w.sum-is in (omega arith, omega arith)
+      | else-is_some w ↦ let o = one_none c.slot-item.result.name (sym w.if-is_some.ensures) in let e = w.sum-is in (omega arith, omega arith)
     ]
 
 pub returns : goal.returns

@@ -17,7 +17,7 @@ pub returns-in-Ok-size : goal.returns-in-Ok-size
 returns-in-Ok-size g c = λ s t.
     let a = g.N.Store.meaning c.args.self.now.near in
     let b = g.F.Store.meaning c.args.self.now.far in
-    let o = size_denied (found a c.args.name) c.size.result (c.size.ensures s) c.in-default.not-Ok in
+    let o = size_denied (found a c.args.name) c.size.result (c.size.ensures s) c.in_default.not-Ok in
     let z = size_known (found b c.args.name) c.in-Ok-size.size (c.in-Ok-size.ensures t) in
     (o, record { live = c.if-not-self.false; packet = z.0; there = z.1; sized = z.2; seen = in-far a b c.args.name c.args.self.now.clean c.if-not-self.false o })
 
@@ -25,5 +25,5 @@ pub returns-in-Err : goal.returns-in-Err
 returns-in-Err g c = λ s t.
     let a = g.N.Store.meaning c.args.self.now.near in
     let b = g.F.Store.meaning c.args.self.now.far in
-    let o = size_denied (found a c.args.name) c.size.result (c.size.ensures s) c.in-default.not-Ok in
+    let o = size_denied (found a c.args.name) c.size.result (c.size.ensures s) c.in_default.not-Ok in
     sym (in-far a b c.args.name c.args.self.now.clean c.if-not-self.false o) ∙ size_error (found b c.args.name) (c.in-Err.ensures t)
