@@ -3,7 +3,7 @@ use Rattle.rows.specs.Rows.{items}
 use Rattle.typing.specs.Marks.{member}
 use Rattle.checker.proofs.Leaves.{member-found, member-next, drop-end, nth_none}
 use Rattle.checker.proofs.asks.among.Goals as goal
-use Rattle.checker.proofs.asks.among.Goals.{in-Some+else-x-y, in-default}
+use Rattle.checker.proofs.asks.among.Goals.{in-Some+else-x-y, in_default}
 
 pub returns-then-x-y : goal.returns-then-x-y
 returns-then-x-y c =
@@ -14,7 +14,7 @@ loop-i-preserved c =
     let ys = items c.args.named.now in
     elim c.match-get.branch [
       | in-Some+else-x-y w ↦ sym (member-next c.args.x c.loop-i.i ys w.in-Some.y (sym w.in-Some.ensures) w.if-x-y.false) ∙ c.loop-i.invariant
-      | in-default w ↦ absurd (nth_none ys c.loop-i.i (sym w.in-default.ensures) (omega arith))
+      | in_default w ↦ absurd (nth_none ys c.loop-i.i (sym w.in_default.ensures) (omega arith))
     ]
 
 pub returns : goal.returns

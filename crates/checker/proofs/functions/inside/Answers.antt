@@ -11,24 +11,24 @@ use Rattle.checker.proofs.Paths.{inside_is}
 use Rattle.checker.proofs.Places.{says_of, recorded_not}
 use Rattle.checker.proofs.functions.inside.Goals as goal
 
-pub returns-in-default : goal.returns-in-default
-returns-in-default c P F s h = absurd (recorded_not c.args.table.now.program.now P c.args.function F (c.in-default.ensures P s) h)
+pub returns-in_default : goal.returns-in_default
+returns-in_default c P F s h = absurd (recorded_not c.args.table.now.program.now P c.args.function F (c.in_default.ensures P s) h)
 
 -- the marks of the parameters
 marks : (H H₀ : Ctx) (ts us : List Ty) → H₀ ≡ [] → length ts ≤ 8 → (length H₀ + length ts ≤ 16 → H ≡ H₀ ++ map Has ts) → ts ≡ us → H ≡ map Has us
 marks H H₀ ts us none few bound same = bound (omega (arith, ap length none)) ∙ (λ i. none i ++ map Has (same i))
 
-pub returns-in-err-body : goal.returns-in-err-body
-returns-in-err-body c P F s h =
+pub returns-in_err-body : goal.returns-in_err-body
+returns-in_err-body c P F s h =
     let b = c.args.table.now.program.now in
     let r = c.in-Some.record in
     let y = says_of b P c.args.function F r (c.in-Some.ensures P s) h in
     let e : c.min-end.result ≡ r.end = omega (arith, y.inside, c.min-end.ensures) in
-    let x : c.from-residual.result ≡ Err c.in-err-body.field-0.0 = search rules in
-    x ∙ inside_is P c.args.function F (context c.bind-all.new.self) r.end (Err c.in-err-body.field-0.0)
-    (c.in-err-body.ensures.answer P F (F.body, r.end) (record { stands = s; bytes = refl; function = h; depth = y.depth; results = y.results })
+    let x : c.from_residual.result ≡ Err c.in_err-body.field-0.0 = search rules in
+    x ∙ inside_is P c.args.function F (context c.bind_all.new.self) r.end (Err c.in_err-body.field-0.0)
+    (c.in_err-body.ensures.answer P F (F.body, r.end) (record { stands = s; bytes = refl; function = h; depth = y.depth; results = y.results })
     (ap (λ z. body_at b z c.args.function 0 r.body) e ∙ y.body))
-    (marks (context c.bind-all.new.self) (items c.new.result) (items r.params) F.params c.new.ensures (omega (arith, row_len r.params, r.params.fits)) c.bind-all.ensures y.params)
+    (marks (context c.bind_all.new.self) (items c.new.result) (items r.params) F.params c.new.ensures (omega (arith, row_len r.params, r.params.fits)) c.bind_all.ensures y.params)
 
 pub returns : goal.returns
 returns c P F s h =
@@ -36,7 +36,7 @@ returns c P F s h =
     let r = c.in-Some.record in
     let y = says_of b P c.args.function F r (c.in-Some.ensures P s) h in
     let e : c.min-end.result ≡ r.end = omega (arith, y.inside, c.min-end.ensures) in
-    inside_is P c.args.function F (context c.bind-all.new.self) r.end (Ok c.in-ok-body.field-0)
-    (c.in-ok-body.ensures.answer P F (F.body, r.end) (record { stands = s; bytes = refl; function = h; depth = y.depth; results = y.results })
+    inside_is P c.args.function F (context c.bind_all.new.self) r.end (Ok c.in_ok-body.field-0)
+    (c.in_ok-body.ensures.answer P F (F.body, r.end) (record { stands = s; bytes = refl; function = h; depth = y.depth; results = y.results })
     (ap (λ z. body_at b z c.args.function 0 r.body) e ∙ y.body))
-    (marks (context c.bind-all.new.self) (items c.new.result) (items r.params) F.params c.new.ensures (omega (arith, row_len r.params, r.params.fits)) c.bind-all.ensures y.params)
+    (marks (context c.bind_all.new.self) (items c.new.result) (items r.params) F.params c.new.ensures (omega (arith, row_len r.params, r.params.fits)) c.bind_all.ensures y.params)

@@ -7,16 +7,16 @@ use Rattle.checker.proofs.layers.bodies.Goals as goal
 pub loop-function-init : goal.loop-function-init
 loop-function-init c P s = refl
 
-pub returns-in-err-inside : goal.returns-in-err-inside
-returns-in-err-inside c P s =
+pub returns-in_err-inside : goal.returns-in_err-inside
+returns-in_err-inside c P s =
     let n = ap (λ (h : Header). h.functions) s.counts in
-    let x : c.from-residual.result ≡ Err c.in-err-inside.field-0.0 = search rules in
-    x ∙ led_fault (inside P) P.functions c.loop-function.function c.in-err-inside.field-0.0 (omega arith) (c.loop-function.invariant P s) (λ F h. c.in-err-inside.ensures P F s h)
+    let x : c.from_residual.result ≡ Err c.in_err-inside.field-0.0 = search rules in
+    x ∙ led_fault (inside P) P.functions c.loop-function.function c.in_err-inside.field-0.0 (omega arith) (c.loop-function.invariant P s) (λ F h. c.in_err-inside.ensures P F s h)
 
 pub loop-function-preserved : goal.loop-function-preserved
 loop-function-preserved c P s =
     let n = ap (λ (h : Header). h.functions) s.counts in
-    led_next (inside P) P.functions c.loop-function.function (omega arith) (c.loop-function.invariant P s) (λ F h. c.in-ok-inside.ensures P F s h)
+    led_next (inside P) P.functions c.loop-function.function (omega arith) (c.loop-function.invariant P s) (λ F h. c.in_ok-inside.ensures P F s h)
 
 pub returns : goal.returns
 returns c P s =

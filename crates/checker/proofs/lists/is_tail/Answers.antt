@@ -6,15 +6,15 @@ use Rattle.reader.proofs.Parts.{node-reads}
 use Rattle.checker.proofs.Tails.{tail_other, tail-counts, tail-return}
 use Rattle.checker.proofs.lists.is_tail.Goals as goal
 
-pub returns-in-default : goal.returns-in-default
-returns-in-default c t h =
+pub returns-in_default : goal.returns-in_default
+returns-in_default c t h =
     let w = c.args.window.now in
-    absurd (node-reads w.bytes.now w.end w.function c.args.ifs c.args.place t c.in-default.field-0 h c.in-default.ensures.reads)
+    absurd (node-reads w.bytes.now w.end w.function c.args.ifs c.args.place t c.in_default.field-0 h c.in_default.ensures.reads)
 
-pub returns-in-default-node : goal.returns-in-default-node
-returns-in-default-node c t h =
+pub returns-in_default-node : goal.returns-in_default-node
+returns-in_default-node c t h =
     let w = c.args.window.now in
-    tail_other w.bytes.now w.end w.function c.args.ifs c.args.first c.args.results c.args.place c.in-Ok.field-0-1 t c.in-Ok.node h c.in-Ok.ensures.reads c.in-default-node.not-Return
+    tail_other w.bytes.now w.end w.function c.args.ifs c.args.first c.args.results c.args.place c.in-Ok.field-0-1 t c.in-Ok.node h c.in-Ok.ensures.reads c.in_default-node.not-Return
 
 pub returns-then-values-results : goal.returns-then-values-results
 returns-then-values-results c t h =

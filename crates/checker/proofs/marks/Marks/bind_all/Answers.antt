@@ -7,7 +7,7 @@ use Rattle.checker.specs.Walks.{context}
 use Rattle.checker.proofs.Leaves.{nth_none}
 use Rattle.checker.proofs.Whole.{bound_more, bound-room}
 use Rattle.checker.proofs.marks.Marks.bind_all.Goals as goal
-use Rattle.checker.proofs.marks.Marks.bind_all.Goals.{in-Some, in-default}
+use Rattle.checker.proofs.marks.Marks.bind_all.Goals.{in-Some, in_default}
 
 pub loop-i-init : goal.loop-i-init
 loop-i-init c room = sym (append-nil (context c.args.self.now))
@@ -23,7 +23,7 @@ loop-i-preserved c room =
           let free = bound-room H₀ H ts c.loop-i.i (c.loop-i.invariant room) (omega arith) room in
           bound_more H₀ H (context c.match-get.self) ts c.loop-i.i t (c.loop-i.invariant room) (sym w.in-Some.ensures)
           (ap context w.self-is ∙ pushed_room H (items w.push.new.self) (Has t) 16 w.push.result w.push.ensures.room w.push.ensures.after free)
-      | in-default w ↦ absurd (nth_none ts c.loop-i.i (sym w.in-default.ensures) (omega arith))
+      | in_default w ↦ absurd (nth_none ts c.loop-i.i (sym w.in_default.ensures) (omega arith))
     ]
 
 pub returns : goal.returns
