@@ -1,15 +1,15 @@
 -- A list of values, given one after the other: what is left to give leads on to the whole.
-use Rattle.std.proofs.Common.{◌≡◌, ℕ, zero, suc, ◌+◌, ◌-◌, ◌<◌, ◌≤◌, List, [], ◌∷◌, length, drop, Some, None, Ok, Err, Option, Result, sym, refl, ap, ◌∙◌, subst, arith}
+use Rattle.std.proofs.Common.{◌≡◌, ℕ, suc, ◌+◌, ◌-◌, ◌<◌, ◌≤◌, List, [], ◌∷◌, length, drop, Some, Ok, Err, Result, sym, ap, ◌∙◌, subst, arith}
 use Rattle.reader.specs.declared.faults.Fault.{Fault}
 use Rattle.reader.specs.declared.types.Ty.{Ty}
 use Rattle.reader.specs.declared.values.Value.{Value}
 use Rattle.reader.specs.declared.values.Operand.{Operand}
-use Rattle.reader.specs.Fields.{Read, then, value_at, values_at}
+use Rattle.reader.specs.Fields.{then, value_at, values_at}
 use Rattle.reader.proofs.Results.{then_ok, ok_same}
 use Rattle.rows.specs.Rows.{nth}
 use Rattle.typing.specs.Typing.{Ctx}
 use Rattle.typing.specs.Marks.{give, gives, note}
-use Rattle.checker.proofs.Leaves.{drop_nth, nth_none}
+use Rattle.checker.proofs.Leaves.{drop_nth}
 
 pub never : {X : Type 0} (e : Fault) (x : X) → ◌≡◌ {A = Result X Fault} (Err e) (Ok x) → ⊥
 never e x h = let z : ◌≡◌ {A = ℕ} 0 1 = cc in omega arith

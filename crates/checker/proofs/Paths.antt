@@ -1,5 +1,5 @@
 -- Bodies, by what their first node says.
-use Rattle.std.proofs.Common.{◌≡◌, ℕ, ◌+◌, ◌&&◌, eqb, leb, List, [], ◌++◌, map, length, Ok, Err, Result, sym, refl, ap, ◌∙◌, subst}
+use Rattle.std.proofs.Common.{◌≡◌, ℕ, ◌+◌, ◌&&◌, eqb, leb, List, [], map, length, Ok, Err, Result, sym, refl, ap, ◌∙◌}
 use Rattle.reader.specs.declared.questions.Question.TheVariants as q
 use Rattle.reader.specs.declared.faults.Fault.{Fault}
 use Rattle.reader.specs.declared.operations.Operation.{Operation}
@@ -14,11 +14,11 @@ use Rattle.checker.proofs.Giving.{never}
 use Rattle.rows.specs.Rows.{items}
 use Rattle.typing.specs.declared.entries.Entry.TheVariants.{Has as has}
 use Rattle.typing.specs.Typing.{Ctx}
-use Rattle.typing.specs.Signatures.{Signature, signature, callee_depth}
+use Rattle.typing.specs.Signatures.{signature, callee_depth}
 use Rattle.typing.specs.Marks.{ask, known, gives, test, is_tail, depth_holds, body}
 use Rattle.typing.specs.Layers.{inside}
 use Rattle.checker.specs.declared.walks.Walk.{Walk}
-use Rattle.checker.specs.Walks.{leaving, binding, entering, Walks}
+use Rattle.checker.specs.Walks.{leaving, entering, Walks}
 
 pub then_assoc : {X Y Z : Type 0} (r : Result X Fault) (g : X → Result Y Fault) (h : Y → Result Z Fault) → then (then r g) h ≡ then r (λ x. then (g x) h)
 then_assoc (Ok x) g h = refl

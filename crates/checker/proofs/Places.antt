@@ -1,14 +1,13 @@
 -- Where the parts of a function's record stand.
-use Rattle.std.proofs.Common.{◌≡◌, ℕ, zero, suc, ◌+◌, ◌-◌, ◌<◌, ◌≤◌, Bool, true, false, ◌&&◌, ◌||◌, eqb, leb, List, [], ◌∷◌, length, get_or, take, Some, None, Ok, Err, Result, sym, refl, ap, ◌∙◌, subst, inl, inr, arith}
+use Rattle.std.proofs.Common.{◌≡◌, ℕ, zero, suc, ◌+◌, ◌-◌, ◌<◌, eqb, List, [], ◌∷◌, length, get_or, Some, None, Ok, sym, ap, ◌∙◌, subst, inl, inr, arith}
 use mathlib.Core.Option.{none, some}
 use lib.ListN.{get_elem?}
 use Rattle.std.proofs.lemmas.List.{get_or-take}
 use Rattle.reader.specs.declared.questions.Question.TheVariants as q
-use Rattle.reader.specs.declared.faults.Fault.{Fault}
 use Rattle.reader.specs.declared.types.Ty.{Ty}
-use Rattle.reader.specs.Fields.{Read, then, byte_at, type_at, count_at}
+use Rattle.reader.specs.Fields.{Read, byte_at, type_at, count_at}
 use Rattle.reader.specs.Nodes.{Head, returns, branches, calls, node_at, followed, body_at}
-use Rattle.reader.specs.Programs.{types_at, signature_at, header}
+use Rattle.reader.specs.Programs.{types_at, signature_at}
 use Rattle.reader.specs.Syntax.{Body, return, branch, call, Function, Program}
 use Rattle.reader.proofs.Results.{then_ok, pass_ok, which, ok_same}
 use Rattle.reader.proofs.Lists.{byte_after, range_after}

@@ -1,19 +1,18 @@
 -- Consecutive variables, looked at one after the other; and tail calls.
-use Rattle.std.proofs.Common.{◌≡◌, ℕ, zero, suc, ◌+◌, ◌-◌, ◌<◌, ◌≤◌, Bool, true, false, ◌&&◌, List, [], ◌∷◌, length, Ok, Err, Result, sym, refl, ap, ◌∙◌, subst, arith}
+use Rattle.std.proofs.Common.{◌≡◌, ℕ, zero, suc, ◌+◌, ◌-◌, ◌<◌, ◌≤◌, Bool, true, false, ◌&&◌, List, [], ◌∷◌, length, Ok, Err, sym, refl, ap, ◌∙◌, subst, arith}
 use Rattle.reader.specs.declared.faults.Fault.{Fault}
 use Rattle.reader.specs.declared.values.Value.{Value}
 use Rattle.reader.specs.declared.values.Operand.{Operand}
 use Rattle.reader.specs.declared.values.Values.{Values}
-use Rattle.reader.specs.declared.operations.Operation.{Operation}
 use Rattle.reader.specs.declared.nodes.Node.{Node}
 use Rattle.reader.specs.declared.nodes.Node.TheVariants as node
-use Rattle.reader.specs.Syntax.{Body, return, branch, call}
+use Rattle.reader.specs.Syntax.{Body}
 use Rattle.reader.specs.Fields.{value_at, values_at}
 use Rattle.reader.specs.Nodes.{body_at, node_at, sight}
 use Rattle.reader.proofs.Results.{ok_same}
-use Rattle.reader.proofs.Parts.{Parts, parts, node-reads}
+use Rattle.reader.proofs.Parts.{parts}
 use Rattle.typing.specs.Marks.{is_variable, consecutive, is_tail}
-use Rattle.checker.proofs.Giving.{never, First, first_of}
+use Rattle.checker.proofs.Giving.{never, first_of}
 
 -- a list of another length is none of j results
 pub consecutive-long : (n j : ℕ) (vs : List Operand) → ¬ (length vs ≡ j) → consecutive n j vs ≡ false

@@ -1,6 +1,5 @@
 -- Whole nodes: returns and calls, question after question.
-use Rattle.std.proofs.Common.{◌≡◌, ℕ, zero, suc, ◌+◌, ◌<◌, ◌≤◌, Bool, true, false, ◌&&◌, eqb, leb, List, [], ◌∷◌, ◌++◌, map, length, take, Some, None, Ok, Err, Result, sym, refl, ap, ◌∙◌, subst, append_assoc, add-one, arith, length-append}
-use mathlib.Core.List.{map-append}
+use Rattle.std.proofs.Common.{◌≡◌, ℕ, zero, suc, ◌+◌, ◌<◌, ◌≤◌, false, ◌&&◌, eqb, List, [], ◌∷◌, ◌++◌, map, length, take, Some, Err, Result, sym, refl, ap, ◌∙◌, append_assoc, add-one, arith, length-append}
 use mathlib.Core.Option.{Option as Maybe, none, some}
 use Rattle.std.proofs.lemmas.Bool.{eq-eqb, and_from}
 use Rattle.std.proofs.lemmas.List.{length-take-le}
@@ -12,9 +11,7 @@ use Rattle.reader.specs.Faults.{fault}
 use Rattle.reader.specs.Syntax.{Body, Program}
 use Rattle.reader.specs.declared.values.Operand.{Operand}
 use Rattle.reader.specs.Fields.{then}
-use Rattle.reader.proofs.Results.{go}
 use Rattle.rows.specs.Rows.{nth}
-use Rattle.typing.specs.declared.entries.Entry.{Entry}
 use Rattle.typing.specs.declared.entries.Entry.TheVariants.{Has as has}
 use Rattle.typing.specs.Typing.{Ctx}
 use Rattle.typing.specs.Signatures.{◌⇒◌, signature, callee_depth}

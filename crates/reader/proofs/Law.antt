@@ -1,5 +1,5 @@
 -- What is read is what was written.
-use Rattle.std.proofs.Common.{◌≡◌, ℕ, ◌<◌, List, get_or, Ok, refl, ap, ◌∙◌}
+use Rattle.std.proofs.Common.{ℕ, List, Ok, refl, ap, ◌∙◌}
 use Rattle.reader.specs.Encoding.{Bytes, ReadsBack, WrittenReads, encode}
 use Rattle.reader.proofs.ReadsProgram.{program-reads}
 use Rattle.reader.proofs.WritesProgram.{program_said}

@@ -1,9 +1,8 @@
 -- Values in a row: one more, and how many.
-use Rattle.std.proofs.Common.{◌≡◌, ℕ, zero, suc, ◌+◌, ◌-◌, ◌<◌, ◌&&◌, leb, List, [], ◌∷◌, length, get_or, IfOk, Ok, Err, Result, sym, refl, ap, ◌∙◌, arith}
-use Rattle.reader.specs.declared.faults.Fault.{Fault}
+use Rattle.std.proofs.Common.{◌≡◌, ℕ, zero, suc, ◌+◌, ◌-◌, ◌<◌, ◌&&◌, leb, List, length, get_or, IfOk, Ok, Err, sym, refl, ap, ◌∙◌, arith}
 use Rattle.reader.specs.declared.values.Operand.{Operand}
 use Rattle.reader.specs.declared.questions.Question.{Question}
-use Rattle.reader.specs.Fields.{Read, then, byte_at, range_at, count_at, value_at, values_at, list_at, placed, listed, standing}
+use Rattle.reader.specs.Fields.{Read, then, byte_at, range_at, count_at, value_at, values_at, list_at, placed, listed}
 use Rattle.reader.proofs.Results.{made_any, made_then, then_ext, placed-then, then-place, then_ok, pass_ok, ok_same, go}
 
 module _ (b : List ℕ) (e f : ℕ) where

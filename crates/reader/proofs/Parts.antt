@@ -1,6 +1,5 @@
 -- A body that reads, taken apart at its first node as the code sees it.
-use Rattle.std.proofs.Common.{◌≡◌, ℕ, ◌+◌, ◌-◌, true, false, eqb, leb, List, length, Ok, Err, Result, sym, refl, ap, ◌∙◌, subst, inl, inr, arith}
-use Rattle.std.proofs.lemmas.Bool.{eqb-true}
+use Rattle.std.proofs.Common.{◌≡◌, ℕ, ◌+◌, ◌-◌, eqb, leb, List, length, Ok, Err, sym, refl, ap, ◌∙◌, subst, inl, inr, arith}
 use Rattle.reader.specs.declared.questions.Question.TheVariants as q
 use Rattle.reader.specs.declared.faults.Fault.{Fault}
 use Rattle.reader.specs.declared.operations.Operation.{Operation}
@@ -10,7 +9,7 @@ use Rattle.reader.specs.declared.nodes.Node.{Node}
 use Rattle.reader.specs.declared.nodes.Node.TheVariants as node
 use Rattle.reader.specs.Operations.{operation}
 use Rattle.reader.specs.Syntax.{Body, return, branch, call}
-use Rattle.reader.specs.Fields.{Read, then, byte_at, half_at, value_at, values_at, count_at, list_at, standing}
+use Rattle.reader.specs.Fields.{Read, then, byte_at, half_at, value_at, values_at, count_at, list_at}
 use Rattle.reader.specs.Nodes.{Head, returns, branches, calls, if_at, call_at, node_at, followed, body_at, seen, sight}
 use Rattle.reader.proofs.Results.{then_ok, pass_ok, shun_ok, which, ok_same, made_ok}
 use Rattle.reader.proofs.Lists.{values-long, byte_after, range_after}

@@ -1,18 +1,17 @@
 -- What is written is read: each part, from the place where its bytes stand.
-use Rattle.std.proofs.Common.{◌≡◌, ℕ, zero, suc, ◌+◌, ◌-◌, ◌*◌, ◌/◌, ◌%◌, ◌<◌, ◌≤◌, max, Bool, true, false, ◌&&◌, eqb, leb, List, [], ◌∷◌, ◌++◌, length, get_or, Ok, Err, Result, sym, refl, ap, ◌∙◌, subst, arith, length-append}
+use Rattle.std.proofs.Common.{◌≡◌, ℕ, zero, suc, ◌+◌, ◌-◌, ◌/◌, ◌%◌, ◌≤◌, true, false, List, [], ◌∷◌, ◌++◌, length, get_or, Ok, sym, refl, ap, ◌∙◌, subst, arith}
 use Rattle.std.proofs.lemmas.Bool.{le-leb, lt-leb, eq-eqb, and_from}
 use Rattle.reader.specs.declared.questions.Question.{Question}
 use Rattle.reader.specs.declared.questions.Question.TheVariants as q
-use Rattle.reader.specs.declared.faults.Fault.{Fault}
 use Rattle.reader.specs.declared.values.Value.{Value}
 use Rattle.reader.specs.declared.values.Value.TheVariants.{Integer, Truth, Variable}
 use Rattle.reader.specs.Fields as r
 use Rattle.reader.specs.Fields.{Read, denied, then, field_at, byte_at, half_at, word_at, value_at, values_at, range_at, count_at, list_at}
 use Rattle.reader.specs.declared.values.Operand.{Operand}
 use Rattle.reader.specs.declared.operations.Operation.{Operation}
-use Rattle.reader.specs.Operations.{kind, index, operation}
+use Rattle.reader.specs.Operations.{kind, index}
 use Rattle.reader.specs.Syntax.{Body, return, branch, call}
-use Rattle.reader.specs.Nodes.{Head, returns, branches, calls, call_at, node_at, followed, body_by}
+use Rattle.reader.specs.Nodes.{calls, call_at, body_by}
 use Rattle.reader.specs.Encoding
 use Rattle.reader.specs.Spans.{Span}
 use Rattle.reader.proofs.Results.{go, pass, shun}

@@ -1,9 +1,7 @@
 -- A program that is read was written.
-use Rattle.std.proofs.Common.{◌≡◌, ℕ, zero, suc, ◌+◌, ◌-◌, ◌<◌, ◌≤◌, Bool, true, false, ◌&&◌, eqb, leb, ◌⊎◌, List, [], ◌∷◌, ◌++◌, length, get_or, Ok, Err, Result, sym, refl, ap, ◌∙◌, subst, inl, inr, arith}
+use Rattle.std.proofs.Common.{◌≡◌, ℕ, zero, suc, ◌+◌, ◌-◌, ◌<◌, ◌≤◌, true, ◌&&◌, eqb, leb, List, [], ◌∷◌, ◌++◌, length, get_or, Ok, sym, refl, ap, ◌∙◌, subst, inl, inr, arith}
 use Rattle.std.proofs.lemmas.Bool.{leb-true, eqb-true, and_parts}
-use Rattle.reader.specs.declared.questions.Question.{Question}
 use Rattle.reader.specs.declared.questions.Question.TheVariants as q
-use Rattle.reader.specs.declared.faults.Fault.{Fault}
 use Rattle.reader.specs.Fields as fields
 use Rattle.reader.specs.Fields.{Read, then, byte_at, half_at, type_at, range_at, count_at}
 use Rattle.reader.specs.declared.types.Ty.{Ty}
@@ -17,7 +15,7 @@ use Rattle.reader.specs.Encoding.{Limits, FitsFunction, Writes}
 use Rattle.reader.specs.Spans.{Span}
 use Rattle.reader.proofs.Spans.{span-end, span_join, span-whole}
 use Rattle.reader.proofs.Results.{then_ok, pass_ok, which, ok_same}
-use Rattle.reader.proofs.WritesRead.{byte_is, half_said, RangeSaid, range_said, BodySaid, body_said}
+use Rattle.reader.proofs.WritesRead.{byte_is, half_said, range_said, BodySaid, body_said}
 use Rattle.reader.proofs.ReadsProgram.{types_long}
 
 pub ended_ok : {X : Type 0} (e f : ℕ) (r : Read X) (x : X × ℕ) → ended e f r ≡ Ok x → (r ≡ Ok x) × (x.1 ≡ e)

@@ -1,6 +1,6 @@
 -- Fields and values: what stands at a place, or the first fault.
 -- b are the bytes, e is where the record or program that encloses the field ends, f the function that a fault carries, p the place.
-use Rattle.std.specs.Prelude.{ℕ, zero, suc, ◌+◌, ◌*◌, ◌<◌, ◌≤◌, Bool, true, false, ◌&&◌, List, [], ◌∷◌, length, IfOk, Ok, Err, Result, ◌==◌, nat_le, slice_index}
+use Rattle.std.specs.Prelude.{ℕ, zero, suc, ◌+◌, ◌*◌, ◌<◌, ◌≤◌, true, false, ◌&&◌, List, [], ◌∷◌, length, IfOk, Ok, Err, Result, ◌==◌, nat_le, slice_index}
 use Rattle.reader.specs.declared.questions.Question.{Question}
 use Rattle.reader.specs.declared.questions.Question.TheVariants as q
 use Rattle.reader.specs.declared.faults.Fault.{Fault}

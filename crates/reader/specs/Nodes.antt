@@ -1,7 +1,6 @@
 -- Nodes and bodies: what stands at a place, or the first fault.
-use Rattle.std.specs.Prelude.{ℕ, zero, suc, ◌+◌, ◌-◌, ◌<◌, true, false, List, Ok, Err, Result, ◌==◌, nat_le}
+use Rattle.std.specs.Prelude.{ℕ, zero, suc, ◌+◌, ◌-◌, ◌<◌, true, false, List, Ok, Err, ◌==◌, nat_le}
 use Rattle.reader.specs.declared.questions.Question.TheVariants as q
-use Rattle.reader.specs.declared.faults.Fault.{Fault}
 use Rattle.reader.specs.declared.operations.Operation.{Operation}
 use Rattle.reader.specs.declared.values.Operand.{Operand}
 use Rattle.reader.specs.declared.nodes.Node.{Node}

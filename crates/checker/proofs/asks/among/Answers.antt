@@ -1,4 +1,4 @@
-use Rattle.std.proofs.Common.{◌≡◌, sym, ap, ◌∙◌, arith, rules}
+use Rattle.std.proofs.Common.{sym, ap, ◌∙◌, arith}
 use Rattle.rows.specs.Rows.{items}
 use Rattle.typing.specs.Marks.{member}
 use Rattle.checker.proofs.Leaves.{member-found, member-next, drop-end, nth_none}

@@ -1,4 +1,4 @@
-use Rattle.std.proofs.Common.{◌≡◌, Some, None, sym, ap, ◌∙◌, arith}
+use Rattle.std.proofs.Common.{Some, sym, ap, ◌∙◌, arith}
 use Rattle.rows.specs.Rows.{items}
 use Rattle.checker.proofs.Leaves.{nth_none}
 use Rattle.checker.proofs.Aliases.{passes_none, passes-next, passes_all, alias_here}

@@ -1,5 +1,4 @@
-use Rattle.std.proofs.Common.{◌≡◌, ℕ, ◌+◌, ◌≤◌, min, List, [], ◌++◌, map, length, Ok, Err, Result, sym, refl, ap, ◌∙◌, arith, rules}
-use Rattle.reader.specs.declared.faults.Fault.{Fault}
+use Rattle.std.proofs.Common.{◌≡◌, ◌+◌, ◌≤◌, List, [], ◌++◌, map, length, Ok, Err, refl, ap, ◌∙◌, arith, rules}
 use Rattle.reader.specs.declared.types.Ty.{Ty}
 use Rattle.reader.specs.Nodes.{body_at}
 use Rattle.rows.specs.Rows.{items}

@@ -1,8 +1,7 @@
-use Rattle.std.proofs.Common.{◌≡◌, ◌+◌, ◌<◌, ◌≤◌, Bool, true, false, ◌&&◌, length, Ok, Err, sym, ap, ◌∙◌, arith, rules}
+use Rattle.std.proofs.Common.{◌≡◌, ◌+◌, true, ◌&&◌, length, Ok, Err, sym, ap, ◌∙◌, arith}
 use Rattle.reader.specs.declared.questions.Question.TheVariants.{ThreadSignature, NoAliasResult}
 use Rattle.reader.specs.declared.headers.Header.{Header}
 use Rattle.reader.specs.Faults.{fault}
-use Rattle.rows.specs.Rows.{items}
 use Rattle.typing.specs.Layers.{empty, no_alias, results_place, thread_ready}
 use Rattle.checker.proofs.Aliases.{ready, no_thread, bare_thread, not_ready}
 use Rattle.checker.proofs.Places.{few, place_is, body-place, says_of, recorded_not}

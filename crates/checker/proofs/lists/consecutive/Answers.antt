@@ -1,4 +1,4 @@
-use Rattle.std.proofs.Common.{◌≡◌, ◌+◌, true, false, sym, ap, ◌∙◌, arith, rules}
+use Rattle.std.proofs.Common.{◌+◌, sym, ap, ◌∙◌, arith}
 use Rattle.typing.specs.Marks.{is_variable}
 use Rattle.checker.proofs.Tails.{trails_first, trails_next, trails_other, trails_reads, trails_last}
 use Rattle.checker.proofs.lists.consecutive.Goals as goal

@@ -1,4 +1,4 @@
-use Rattle.std.proofs.Common.{◌≡◌, Ok, Err, sym, ap, ◌∙◌, arith, rules}
+use Rattle.std.proofs.Common.{◌≡◌, Err, sym, ap, ◌∙◌, arith, rules}
 use Rattle.rows.specs.Rows.{items, nth}
 use Rattle.rows.proofs.Lists.{row_len}
 use Rattle.checker.specs.Walks.{context, changed}

@@ -1,7 +1,5 @@
-use Rattle.std.proofs.Common.{◌≡◌, Ok, sym, ap, ◌∙◌}
-use Rattle.reader.specs.declared.faults.Fault.{Fault}
+use Rattle.std.proofs.Common.{Ok, sym, ap, ◌∙◌}
 use Rattle.reader.specs.declared.nodes.Node.{Node}
-use Rattle.reader.specs.Fields.{Read}
 use Rattle.reader.proofs.Parts.{node-reads}
 use Rattle.checker.proofs.Tails.{tail_other, tail-counts, tail-return}
 use Rattle.checker.proofs.lists.is_tail.Goals as goal

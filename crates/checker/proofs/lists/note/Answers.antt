@@ -1,4 +1,4 @@
-use Rattle.std.proofs.Common.{◌≡◌, [], ◌∷◌, ◌++◌, sym, ap, ◌∙◌, rules}
+use Rattle.std.proofs.Common.{sym, ap, ◌∙◌}
 use Rattle.rows.specs.Rows.{items}
 use Rattle.rows.proofs.Lists.{pushed_room, pushed_long}
 use Rattle.typing.specs.Marks.{note}

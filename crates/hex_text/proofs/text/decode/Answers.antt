@@ -1,4 +1,4 @@
-use Rattle.std.proofs.Common.{◌≡◌, ℕ, ◌+◌, List, ◌++◌, drop, vec_items, sym, ap, ◌∙◌, inl, inr, arith, rules}
+use Rattle.std.proofs.Common.{◌≡◌, ℕ, ◌+◌, List, ◌++◌, drop, vec_items, sym, ap, ◌∙◌, inr, arith, rules}
 use Rattle.hex_text.specs.Spelling.{joined, listed, spelled}
 use Rattle.hex_text.proofs.Steps.{step_bad, step-good, end_odd, end-even}
 use Rattle.hex_text.proofs.text.decode.Goals as goal

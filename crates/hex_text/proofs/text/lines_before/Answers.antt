@@ -1,5 +1,4 @@
 use Rattle.std.proofs.Common.{arith, rules}
-use Rattle.std.proofs.lemmas.Bool.Decides.{nat_tests}
 use Rattle.hex_text.proofs.Steps.{lines_more}
 use Rattle.hex_text.proofs.text.lines_before.Goals as goal
 

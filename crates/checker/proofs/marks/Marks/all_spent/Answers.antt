@@ -1,4 +1,4 @@
-use Rattle.std.proofs.Common.{◌≡◌, sym, ap, ◌∙◌, arith, rules}
+use Rattle.std.proofs.Common.{sym, ap, ◌∙◌, arith, rules}
 use Rattle.typing.specs.Marks.{all_spent}
 use Rattle.checker.specs.Walks.{context}
 use Rattle.checker.proofs.Leaves.{owner-found, owner-next, drop-end, nth_none}

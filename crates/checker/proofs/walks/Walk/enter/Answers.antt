@@ -1,4 +1,4 @@
-use Rattle.std.proofs.Common.{◌≡◌, Ok, Err, sym, ap, ◌∙◌, arith, rules}
+use Rattle.std.proofs.Common.{◌≡◌, Ok, Err, ap, ◌∙◌, arith, rules}
 use Rattle.rows.specs.Rows.{items}
 use Rattle.records.specs.Tables.{maybe}
 use Rattle.checker.specs.Walks.{context, changed}

@@ -1,4 +1,4 @@
-use Rattle.std.proofs.Common.{◌≡◌, Ok, Err, sym, ap, ◌∙◌, arith, rules}
+use Rattle.std.proofs.Common.{◌≡◌, Ok, Err, ap, ◌∙◌, arith, rules}
 use Rattle.reader.specs.declared.questions.Question.TheVariants.{OwnersSpent}
 use Rattle.rows.specs.Rows.{items}
 use Rattle.typing.specs.Marks.{ask}

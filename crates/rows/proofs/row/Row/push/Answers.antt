@@ -1,4 +1,4 @@
-use Rattle.std.proofs.Common.{◌<◌, length, sym, arith, rules, lt-ltb}
+use Rattle.std.proofs.Common.{◌<◌, length, sym, arith, lt-ltb}
 use Rattle.std.proofs.lemmas.List.{take_more_set}
 use Rattle.rows.specs.Rows.{items}
 use Rattle.rows.proofs.Lists.{row_len}
