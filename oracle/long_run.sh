@@ -5,7 +5,7 @@
 #
 # Environment:
 #   PACLANG  the other checker: reads hexadecimal lines, writes verdict lines
-#            (default: target/bin/paclang verdicts, from the repository root)
+#            (default: crates/paclang/out/paclang verdicts, from the repository root)
 #   LAYER=1  puts layer 1 only to the oracle
 #   BATCH    cases in a batch (default 50000); batch i is made from SEED + i
 #   KIND     kind of cases (default mixed)
@@ -35,7 +35,7 @@ kind=${KIND:-mixed}
 here=$(cd "$(dirname "$0")" && pwd) || exit 2
 cd "$here/.." || exit 2
 oracle=${ORACLE:-$here/target/release/oracle}
-paclang=${PACLANG:-target/bin/paclang verdicts}
+paclang=${PACLANG:-crates/paclang/out/paclang verdicts}
 layer=
 if [ "${LAYER:-}" = 1 ]; then
     layer="--layer 1"

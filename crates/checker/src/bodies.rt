@@ -1,6 +1,6 @@
 //! The walk over a body.
 ghost use Rattle.std.specs.Prelude.{◌≡◌, ℕ, ◌<◌, IfOk, Ok};
-ghost use Rattle.reader.specs.Fields.{In, then};
+ghost use Rattle.reader.specs.Fields.{read_in, then};
 ghost use Rattle.reader.specs.Syntax.{Body, Function, Program};
 ghost use Rattle.reader.specs.Nodes.{body_at};
 ghost use Rattle.typing.specs.Marks.{body};
@@ -15,7 +15,7 @@ impl Walk<'_> {
     /// Puts the questions about a body under `ifs` ifs, node after node; the place after it.
     /// Each branch of an if starts from the marks that stood before it.
     pub(crate) fn body(&self, marks: &mut Marks, ifs: u8, place: usize) -> Result<usize, Fault>
-        ensures answer { (P : Program) (F : Function) (t : Body × ℕ) → Walks self.now P F → In self.now.window body_at ifs place ≡ Ok t → result ≡ then (body P self.now.window.function F (context marks.old) t.0) (λ _. Ok t.1) }
+        ensures answer { (P : Program) (F : Function) (t : Body × ℕ) → Walks self.now P F → read_in self.now.window body_at ifs place ≡ Ok t → result ≡ then (body P self.now.window.function F (context marks.old) t.0) (λ _. Ok t.1) }
         ensures onward { IfOk result (λ z. place < z) }
     {
         let (node, next) = self.window.node(ifs, place)?;

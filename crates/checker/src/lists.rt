@@ -1,7 +1,7 @@
 //! Questions about lists of values.
 ghost use Rattle.std.specs.Prelude.{◌≡◌, ℕ, ◌+◌, ◌<◌, ◌≤◌, List, [], length, Ok};
 ghost use Rattle.reader.specs.declared.values.Operand.{Operand as Placed};
-ghost use Rattle.reader.specs.Fields.{In, values_at};
+ghost use Rattle.reader.specs.Fields.{read_in, values_at};
 ghost use Rattle.reader.specs.Syntax.{Body};
 ghost use Rattle.reader.specs.Nodes.{body_at};
 ghost use Rattle.rows.specs.Rows.{items};
@@ -33,7 +33,7 @@ pub(crate) fn give_all(
     values: Values,
     wanted: &Row<Ty, 8>,
 ) -> Result<(), Fault>
-    ensures { (vs : List Placed) (z : ℕ) → In window.now values_at values.count values.place ≡ Ok (vs, z) → length (items wanted.now) ≡ values.count → changed result marks.new ≡ gives window.now.function (context marks.old) [] vs (items wanted.now) }
+    ensures { (vs : List Placed) (z : ℕ) → read_in window.now values_at values.count values.place ≡ Ok (vs, z) → length (items wanted.now) ≡ values.count → changed result marks.new ≡ gives window.now.function (context marks.old) [] vs (items wanted.now) }
 {
     let mut named = Row::new(0);
     let mut place = values.place;
@@ -62,7 +62,7 @@ fn is_variable(value: Value, number: usize) -> bool
 /// Whether the values are the variables from `first` on, in order.
 fn consecutive(window: &Window, first: usize, values: Values) -> bool
     requires { first ≤ 16 }
-    ensures { (vs : List Placed) (z : ℕ) → In window.now values_at values.count values.place ≡ Ok (vs, z) → result ≡ consecutive first values.count vs }
+    ensures { (vs : List Placed) (z : ℕ) → read_in window.now values_at values.count values.place ≡ Ok (vs, z) → result ≡ consecutive first values.count vs }
 {
     let mut place = values.place;
     for k in 0..values.count {
@@ -80,7 +80,7 @@ fn consecutive(window: &Window, first: usize, values: Values) -> bool
 /// Whether a call of `results` results, bound from `first` on, is a tail call: the body at the place behind it returns just them.
 pub(crate) fn is_tail(window: &Window, ifs: u8, first: usize, results: u8, place: usize) -> bool
     requires { first ≤ 16 }
-    ensures { (t : Body × ℕ) → In window.now body_at ifs place ≡ Ok t → result ≡ is_tail first results t.0 }
+    ensures { (t : Body × ℕ) → read_in window.now body_at ifs place ≡ Ok t → result ≡ is_tail first results t.0 }
 {
     let Ok((node, _)) = window.node(ifs, place) else {
         return false;

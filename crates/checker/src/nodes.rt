@@ -1,7 +1,7 @@
 //! Questions about whole nodes.
 ghost use Rattle.std.specs.Prelude.{◌≡◌, ℕ, ◌+◌, ◌≤◌, List, ◌++◌, map, length, Ok};
 ghost use Rattle.reader.specs.declared.values.Operand.{Operand as Placed};
-ghost use Rattle.reader.specs.Fields.{In, values_at};
+ghost use Rattle.reader.specs.Fields.{read_in, values_at};
 ghost use Rattle.rows.specs.Rows.{items};
 ghost use Rattle.reader.specs.Syntax.{Body, Program};
 ghost use Rattle.reader.specs.Nodes.{body_at};
@@ -56,7 +56,7 @@ impl Marks {
 impl Walk<'_> {
     /// Puts the questions about a return.
     pub(crate) fn leave(&self, marks: &mut Marks, place: usize, values: Values) -> Result<(), Fault>
-        ensures { (vs : List Placed) (z : ℕ) → In self.now.window values_at values.count values.place ≡ Ok (vs, z) → length vs ≡ values.count → result ≡ leaving self.now.window.function place (context marks.old) vs (items self.now.results) }
+        ensures { (vs : List Placed) (z : ℕ) → read_in self.now.window values_at values.count values.place ≡ Ok (vs, z) → length vs ≡ values.count → result ≡ leaving self.now.window.function place (context marks.old) vs (items self.now.results) }
     {
         let function = self.window.function;
         if usize::from(values.count) != self.results.len() {
@@ -71,7 +71,7 @@ impl Walk<'_> {
 
     /// Puts the questions about a call's results, once its arguments are given, and binds them.
     fn bind(&self, marks: &mut Marks, ifs: u8, call: Call, callee: &Callee) -> Result<(), Fault>
-        ensures { (t : Body × ℕ) → In self.now.window body_at ifs call.next ≡ Ok t → length (items callee.now.results) ≡ call.results → changed result marks.new ≡ binding self.now.window.function call.place self.now.depth (maybe callee.now.depth) call.results t.0 (items callee.now.results) (context marks.old) }
+        ensures { (t : Body × ℕ) → read_in self.now.window body_at ifs call.next ≡ Ok t → length (items callee.now.results) ≡ call.results → changed result marks.new ≡ binding self.now.window.function call.place self.now.depth (maybe callee.now.depth) call.results t.0 (items callee.now.results) (context marks.old) }
     {
         let function = self.window.function;
         let bound = marks.entries.len();
@@ -88,7 +88,7 @@ impl Walk<'_> {
 
     /// Puts the questions about a call.
     pub(crate) fn enter(&self, marks: &mut Marks, ifs: u8, call: Call) -> Result<(), Fault>
-        ensures { (P : Program) (vs : List Placed) (z : ℕ) (t : Body × ℕ) → Stands self.now.table P → In self.now.window values_at call.arguments.count call.arguments.place ≡ Ok (vs, z) → length vs ≡ call.arguments.count → In self.now.window body_at ifs call.next ≡ Ok t → changed result marks.new ≡ entering P self.now.window.function call.place self.now.depth (context marks.old) call.operation vs call.results t.0 }
+        ensures { (P : Program) (vs : List Placed) (z : ℕ) (t : Body × ℕ) → Stands self.now.table P → read_in self.now.window values_at call.arguments.count call.arguments.place ≡ Ok (vs, z) → length vs ≡ call.arguments.count → read_in self.now.window body_at ifs call.next ≡ Ok t → changed result marks.new ≡ entering P self.now.window.function call.place self.now.depth (context marks.old) call.operation vs call.results t.0 }
     {
         let function = self.window.function;
         let Some(callee) = self.table.callee(call.operation) else {

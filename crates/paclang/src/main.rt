@@ -8,7 +8,7 @@ mod loading;
 mod naming;
 mod wording;
 
-use anyhow::anyhow;
+use std::process::ExitCode;
 use std::{env, io};
 
 const USAGE: &str = "usage: paclang check FILE | paclang verdicts | paclang disassemble FILE";
@@ -35,13 +35,13 @@ fn run(rt: &HostRuntime) -> io::Result<bool> {
     }
 }
 
-fn main(rt: HostRuntime) -> anyhow::Result<()> {
+fn main(rt: HostRuntime) -> io::Result<ExitCode> {
     match run(&rt) {
-        Ok(true) => Ok(()),
-        Ok(false) => Err(anyhow!("denied")),
+        Ok(true) => Ok(ExitCode::SUCCESS),
+        Ok(false) => Ok(ExitCode::FAILURE),
         Err(error) => {
             eprintln!(rt; "paclang: {error}")?;
-            Err(anyhow!("failed"))
+            Ok(ExitCode::FAILURE)
         }
     }
 }

@@ -1,7 +1,7 @@
 -- The bytes of a program, straight from the layout; the limits of layer 1; the places; and the law that joins them to reading.
 use Rattle.std.specs.Prelude.{◌≡◌, ℕ, ◌+◌, ◌/◌, ◌%◌, ◌<◌, ◌≤◌, max, Bool, true, false, ◌↔◌, List, [], ◌∷◌, ◌++◌, length, Ok, slice_index}
 use Rattle.reader.specs.declared.types.Ty.{Ty}
-use Rattle.reader.specs.declared.types.Ty.TheVariants.{Int, Bool as Truth-type, Packet, Alias}
+use Rattle.reader.specs.declared.types.Ty.TheVariants.{Int, Bool as TruthType, Packet, Alias}
 use Rattle.reader.specs.declared.values.Value.{Value}
 use Rattle.reader.specs.declared.values.Value.TheVariants.{Integer, Truth, Variable}
 use Rattle.reader.specs.declared.values.Operand.{Operand}
@@ -41,7 +41,7 @@ body (call p o vs n next) = 3 ∷ kind o ∷ index o ∷ length vs ∷ values vs
 
 abbrev pub type : Ty → ℕ
 type Int = 1
-type Truth-type = 2
+type TruthType = 2
 type Packet = 3
 type Alias = 4
 

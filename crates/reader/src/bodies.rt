@@ -1,6 +1,6 @@
 //! Bodies: nodes with all that follows them.
 ghost use Rattle.std.specs.Prelude.{◌≡◌, ◌<◌, ◌≤◌, IfOk};
-ghost use Rattle.reader.specs.Fields.{In, placed};
+ghost use Rattle.reader.specs.Fields.{read_in, placed};
 ghost use Rattle.reader.specs.Nodes.{body_at};
 
 use crate::faults::Fault;
@@ -11,7 +11,7 @@ use crate::windows::Window;
 impl Window<'_> {
     /// The place after a body that stands under `ifs` ifs.
     pub(crate) fn body(&self, ifs: u8, place: usize) -> Result<usize, Fault>
-        ensures reads { result ≡ placed (In self.now body_at ifs place) }
+        ensures reads { result ≡ placed (read_in self.now body_at ifs place) }
         ensures onward { IfOk result (λ z. (place < z) × (z ≤ self.now.end)) }
     {
         let (node, next) = self.node(ifs, place)?;

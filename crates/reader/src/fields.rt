@@ -1,6 +1,6 @@
 //! Fields and values: from a place to what stands there and the place after it.
 ghost use Rattle.std.specs.Prelude.{◌≡◌, ◌<◌, ◌≤◌, IfOk};
-ghost use Rattle.reader.specs.Fields.{In, byte_at, half_at, word_at, value_at, type_at, range_at, count_at, values_at, list_at, Onward, placed, listed};
+ghost use Rattle.reader.specs.Fields.{read_in, byte_at, half_at, word_at, value_at, type_at, range_at, count_at, values_at, list_at, Onward, placed, listed};
 ghost use Rattle.reader.specs.Faults.{fault};
 
 use crate::faults::Fault;
@@ -19,7 +19,7 @@ impl Window<'_> {
 
     /// One byte.
     pub fn byte(&self, place: usize) -> Result<(u8, usize), Fault>
-        ensures reads { result ≡ In self.now byte_at place }
+        ensures reads { result ≡ read_in self.now byte_at place }
         ensures onward { Onward place self.now.end result }
     {
         if place >= self.end {
@@ -30,7 +30,7 @@ impl Window<'_> {
 
     /// Two bytes, the larger part first.
     pub fn half(&self, place: usize) -> Result<(u16, usize), Fault>
-        ensures reads { result ≡ In self.now half_at place }
+        ensures reads { result ≡ read_in self.now half_at place }
         ensures onward { Onward place self.now.end result }
     {
         if self.end < 2 || place > self.end - 2 {
@@ -43,7 +43,7 @@ impl Window<'_> {
 
     /// Four bytes, the larger part first.
     pub fn word(&self, place: usize) -> Result<(u32, usize), Fault>
-        ensures reads { result ≡ In self.now word_at place }
+        ensures reads { result ≡ read_in self.now word_at place }
         ensures onward { Onward place self.now.end result }
     {
         if self.end < 4 || place > self.end - 4 {
@@ -56,7 +56,7 @@ impl Window<'_> {
 
     /// A value, and the place after it.
     pub fn value(&self, place: usize) -> Result<(Value, usize), Fault>
-        ensures reads { result ≡ In self.now value_at place }
+        ensures reads { result ≡ read_in self.now value_at place }
         ensures onward { Onward place self.now.end result }
     {
         let (tag, next) = self.byte(place)?;
@@ -83,7 +83,7 @@ impl Window<'_> {
 
     /// A type.
     pub fn ty(&self, place: usize) -> Result<(Ty, usize), Fault>
-        ensures reads { result ≡ In self.now type_at place }
+        ensures reads { result ≡ read_in self.now type_at place }
         ensures onward { Onward place self.now.end result }
     {
         let (code, next) = self.byte(place)?;
@@ -104,7 +104,7 @@ impl Window<'_> {
         high: u8,
         place: usize,
     ) -> Result<(u8, usize), Fault>
-        ensures reads { result ≡ In self.now (range_at question low high) place }
+        ensures reads { result ≡ read_in self.now (range_at question low high) place }
         ensures onward { Onward place self.now.end result }
     {
         let (value, next) = self.byte(place)?;
@@ -116,7 +116,7 @@ impl Window<'_> {
 
     /// A count of at most 8.
     pub fn count(&self, place: usize) -> Result<(u8, usize), Fault>
-        ensures reads { result ≡ In self.now count_at place }
+        ensures reads { result ≡ read_in self.now count_at place }
         ensures onward { Onward place self.now.end result }
     {
         self.range(Question::ListLength, 0, 8, place)
@@ -124,7 +124,7 @@ impl Window<'_> {
 
     /// The place after `count` values.
     fn values(&self, count: u8, place: usize) -> Result<usize, Fault>
-        ensures reads { result ≡ placed (In self.now values_at count place) }
+        ensures reads { result ≡ placed (read_in self.now values_at count place) }
         ensures later { IfOk result (λ z. (place ≤ z) × (place ≤ self.now.end → z ≤ self.now.end)) }
     {
         let mut next = place;
@@ -137,7 +137,7 @@ impl Window<'_> {
 
     /// A count and that many values: where they stand.
     pub(crate) fn list(&self, place: usize) -> Result<(Values, usize), Fault>
-        ensures reads { result ≡ listed place (In self.now list_at place) }
+        ensures reads { result ≡ listed place (read_in self.now list_at place) }
         ensures onward { Onward place self.now.end result }
     {
         let (count, first) = self.count(place)?;

@@ -1,6 +1,6 @@
 //! Nodes: from the place of a tag to the node and the place of what follows it.
 ghost use Rattle.std.specs.Prelude.{◌≡◌, ◌+◌, IfOk};
-ghost use Rattle.reader.specs.Fields.{In, Onward};
+ghost use Rattle.reader.specs.Fields.{read_in, Onward};
 ghost use Rattle.reader.specs.Nodes.{call_at, node_at, sight, Nested};
 
 use crate::faults::Fault;
@@ -34,7 +34,7 @@ const MOST_IFS: u8 = 16;
 impl Window<'_> {
     /// The node at a place under `ifs` ifs.
     pub fn node(&self, ifs: u8, place: usize) -> Result<(Node, usize), Fault>
-        ensures reads { result ≡ sight place (In self.now node_at ifs place) }
+        ensures reads { result ≡ sight place (read_in self.now node_at ifs place) }
         ensures onward { Onward place self.now.end result }
         ensures nested { IfOk result (λ x. Nested ifs x.0) }
     {

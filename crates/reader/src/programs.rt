@@ -1,6 +1,6 @@
 //! Records, and whole programs.
 ghost use Rattle.std.specs.Prelude.{◌≡◌, ◌<◌, ◌≤◌, true, length};
-ghost use Rattle.reader.specs.Fields.{In, Onward, placed};
+ghost use Rattle.reader.specs.Fields.{read_in, Onward, placed};
 ghost use Rattle.reader.specs.Programs.{types_at, signature_at, record_in, record_at, records_at, length_ok, header_at, reading, headed};
 ghost use Rattle.reader.specs.Encoding.{ReadsBack, WrittenReads};
 
@@ -15,7 +15,7 @@ const OUTSIDE: u8 = 255;
 impl Window<'_> {
     /// The place after `count` types.
     fn types(&self, count: u8, place: usize) -> Result<usize, Fault>
-        ensures { result ≡ placed (In self.now types_at count place) }
+        ensures { result ≡ placed (read_in self.now types_at count place) }
     {
         let mut next = place;
         for _i in 0..count {
@@ -27,7 +27,7 @@ impl Window<'_> {
 
     /// The place after a count and that many types.
     fn signature(&self, place: usize) -> Result<usize, Fault>
-        ensures { result ≡ placed (In self.now signature_at place) }
+        ensures { result ≡ placed (read_in self.now signature_at place) }
     {
         let (count, next) = self.count(place)?;
         self.types(count, next)
@@ -35,7 +35,7 @@ impl Window<'_> {
 
     /// The place after what a record holds, which is the end of the window.
     fn contents(&self, start: usize, place: usize) -> Result<usize, Fault>
-        ensures { result ≡ placed (In self.now record_in start place) }
+        ensures { result ≡ placed (read_in self.now record_in start place) }
     {
         let (_, next) = self.range(Question::DepthLimit, 0, 7, place)?;
         let next = self.signature(next)?;
@@ -49,7 +49,7 @@ impl Window<'_> {
 
     /// The version and the counts.
     fn header(&self, place: usize) -> Result<(Header, usize), Fault>
-        ensures { result ≡ In self.now header_at place }
+        ensures { result ≡ read_in self.now header_at place }
     {
         let (_, next) = self.range(Question::Version, 1, 1, place)?;
         let (threads, next) = self.range(Question::ThreadCount, 1, 8, next)?;

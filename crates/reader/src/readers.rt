@@ -1,6 +1,6 @@
 //! A reader with a place of its own.
 ghost use Rattle.std.specs.Prelude.{◌≡◌};
-ghost use Rattle.reader.specs.Fields.{In, byte_at, half_at, word_at, value_at};
+ghost use Rattle.reader.specs.Fields.{read_in, byte_at, half_at, word_at, value_at};
 ghost use Rattle.reader.specs.Nodes.{node_at, sight};
 ghost use Rattle.reader.specs.Readers.{answer, moved};
 
@@ -19,8 +19,8 @@ pub struct Reader<'a> {
 impl Reader<'_> {
     /// One byte.
     pub fn byte(&mut self) -> Result<u8, Fault>
-        ensures answer { result ≡ answer (In self.old.window byte_at self.old.place) }
-        ensures after { self.new ≡ moved self.old (In self.old.window byte_at self.old.place) }
+        ensures answer { result ≡ answer (read_in self.old.window byte_at self.old.place) }
+        ensures after { self.new ≡ moved self.old (read_in self.old.window byte_at self.old.place) }
     {
         let (byte, next) = self.window.byte(self.place)?;
         self.place = next;
@@ -29,8 +29,8 @@ impl Reader<'_> {
 
     /// Two bytes, the larger part first.
     pub fn half(&mut self) -> Result<u16, Fault>
-        ensures answer { result ≡ answer (In self.old.window half_at self.old.place) }
-        ensures after { self.new ≡ moved self.old (In self.old.window half_at self.old.place) }
+        ensures answer { result ≡ answer (read_in self.old.window half_at self.old.place) }
+        ensures after { self.new ≡ moved self.old (read_in self.old.window half_at self.old.place) }
     {
         let (half, next) = self.window.half(self.place)?;
         self.place = next;
@@ -39,8 +39,8 @@ impl Reader<'_> {
 
     /// Four bytes, the larger part first.
     pub fn word(&mut self) -> Result<u32, Fault>
-        ensures answer { result ≡ answer (In self.old.window word_at self.old.place) }
-        ensures after { self.new ≡ moved self.old (In self.old.window word_at self.old.place) }
+        ensures answer { result ≡ answer (read_in self.old.window word_at self.old.place) }
+        ensures after { self.new ≡ moved self.old (read_in self.old.window word_at self.old.place) }
     {
         let (word, next) = self.window.word(self.place)?;
         self.place = next;
@@ -49,8 +49,8 @@ impl Reader<'_> {
 
     /// A value.
     pub fn value(&mut self) -> Result<Value, Fault>
-        ensures answer { result ≡ answer (In self.old.window value_at self.old.place) }
-        ensures after { self.new ≡ moved self.old (In self.old.window value_at self.old.place) }
+        ensures answer { result ≡ answer (read_in self.old.window value_at self.old.place) }
+        ensures after { self.new ≡ moved self.old (read_in self.old.window value_at self.old.place) }
     {
         let (value, next) = self.window.value(self.place)?;
         self.place = next;
@@ -59,8 +59,8 @@ impl Reader<'_> {
 
     /// A node under `ifs` ifs, without what follows it.
     pub fn node(&mut self, ifs: u8) -> Result<Node, Fault>
-        ensures answer { result ≡ answer (sight self.old.place (In self.old.window node_at ifs self.old.place)) }
-        ensures after { self.new ≡ moved self.old (In self.old.window node_at ifs self.old.place) }
+        ensures answer { result ≡ answer (sight self.old.place (read_in self.old.window node_at ifs self.old.place)) }
+        ensures after { self.new ≡ moved self.old (read_in self.old.window node_at ifs self.old.place) }
     {
         let (node, next) = self.window.node(ifs, self.place)?;
         self.place = next;

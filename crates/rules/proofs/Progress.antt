@@ -24,7 +24,7 @@ use Rattle.rules.specs.State.{Held, nothing, integer, truth, owner, Frame, frame
 use Rattle.rules.specs.State as held
 use Rattle.rules.specs.Rules.{Give, an_integer, a_truth, copy_integer, copy_truth, copy_alias, lend, spend, Gives, no_more, one_more, Operates, computes, compares, connects, makes, kills, reads_inside, reads_outside, updates_inside, updates_outside, dequeues, enqueues}
 use Rattle.rules.specs.Rules.{Cause, Outcome, Advanced, Waits, Stuck, made_size, Delays, on_empty, on_full, on_names, on_room, Rule, operates, calls, tail_calls, returns, ends, if_true, if_false, WaitsFor, delayed, Moves, advances, waits, Step, moves, sticks}
-use Rattle.rules.specs.Promises.{occurs, Goes_on}
+use Rattle.rules.specs.Promises.{occurs, GoesOn}
 use Rattle.rules.proofs.Counts.{owned, borrowed, in_frames, held, present-some, total_get_or, is_same}
 use Rattle.rules.proofs.Contexts.{Leave, Leaves}
 use Rattle.rules.proofs.Typed.{type, types, give-leaves, provided-row}
@@ -255,7 +255,7 @@ pub cause_runs : {s : State} {t : ℕ} {r : Thread} {c : Cause} → WaitsFor s t
 cause_runs (delayed sg h d) = running-ended
 
 -- what follows where a rule or a cause stands
-goes_on : (s : State) (t : ℕ) → thread s t ≢ ended → Next s t (thread s t) → Goes_on s t
+goes_on : (s : State) (t : ℕ) → thread s t ≢ ended → Next s t (thread s t) → GoesOn s t
 goes_on s t ne x = record {
   answered = ⊎_elim (λ r. (_, _, moves (advances r.2))) (λ r. (_, _, moves (waits r.1))) x;
   never_stuck = never;
@@ -285,5 +285,5 @@ next s sound zero ne = absurd (ne refl)
 next s sound (suc i) ne = next_exists s sound (suc i)
     (λ n h. present-some (lookup n (packets s)) (let a = sound.conserved n in let b = total_get_or (held n) s.threads i ended refl in omega arith)) (sound.placed i) (sound.lent i) ne
 
-pub goes_on_stands : (s : State) → Sound s → (t : ℕ) → thread s t ≢ ended → Goes_on s t
+pub goes_on_stands : (s : State) → Sound s → (t : ℕ) → thread s t ≢ ended → GoesOn s t
 goes_on_stands s sound t ne = goes_on s t ne (next s sound t ne)

@@ -79,7 +79,7 @@ pub record Owned (s : State) : Type 0 where
 -- Progress.
 
 -- A step of a thread that has not ended is answered, and never stuck. It waits exactly when a cause stands, and otherwise advances.
-pub record Goes_on (s : State) (t : ℕ) : Type 0 where
+pub record GoesOn (s : State) (t : ℕ) : Type 0 where
   pub answered : (a : Outcome) × (s' : State) × Step s t a s'
   pub never_stuck : (s' : State) → ¬ Step s t Stuck s'
   pub waits_exactly : (c : Cause) → ((s' : State) × Step s t (Waits c) s') ↔ WaitsFor s t (thread s t) c
@@ -99,7 +99,7 @@ pub record ReadyTells (s : State) : Type 0 where
   pub alters_nothing : (r : Reply) (m : Machine) → Does (loaded s) ready r m → m ≡ loaded s
 
 pub record Progress (s : State) : Type 0 where
-  pub goes_on : (t : ℕ) → thread s t ≢ ended → Goes_on s t
+  pub goes_on : (t : ℕ) → thread s t ≢ ended → GoesOn s t
   pub settled : Settled s
   pub ready_tells : ReadyTells s
 

@@ -1,6 +1,6 @@
 //! What a record says before its body.
 ghost use Rattle.std.specs.Prelude.{◌≡◌, ◌≤◌, length};
-ghost use Rattle.reader.specs.Fields.{In};
+ghost use Rattle.reader.specs.Fields.{read_in};
 ghost use Rattle.reader.specs.Programs.{types_at, signature_at};
 ghost use Rattle.records.specs.Glances.{rowed, glanced, glance_in, glance_at};
 
@@ -14,7 +14,7 @@ use rows::row::Row;
 /// `count` types, and the place after them.
 fn types(window: &Window, count: u8, place: usize) -> Result<(Row<Ty, 8>, usize), Fault>
     requires { count ≤ 8 }
-    ensures { rowed result ≡ In window.now types_at count place }
+    ensures { rowed result ≡ read_in window.now types_at count place }
 {
     let mut types = Row::new(Ty::Int);
     let mut next = place;
@@ -28,7 +28,7 @@ fn types(window: &Window, count: u8, place: usize) -> Result<(Row<Ty, 8>, usize)
 
 /// A count and that many types, and the place after them.
 fn signature(window: &Window, place: usize) -> Result<(Row<Ty, 8>, usize), Fault>
-    ensures { rowed result ≡ In window.now signature_at place }
+    ensures { rowed result ≡ read_in window.now signature_at place }
 {
     let (count, next) = window.count(place)?;
     types(window, count, next)
@@ -36,7 +36,7 @@ fn signature(window: &Window, place: usize) -> Result<(Row<Ty, 8>, usize), Fault
 
 /// What a window that is a record says from `place` on.
 fn contents(window: &Window, place: usize) -> Result<Record, Fault>
-    ensures { glanced result ≡ In window.now glance_in place }
+    ensures { glanced result ≡ read_in window.now glance_in place }
 {
     let (depth, next) = window.byte(place)?;
     let (params, next) = signature(window, next)?;

@@ -1,11 +1,11 @@
 use Rattle.std.proofs.Common.{◌≡◌, ℕ, ◌+◌, Ok, Err, Result, ap, ◌∙◌, rules}
 use Rattle.reader.specs.declared.faults.Fault.{Fault}
 use Rattle.reader.specs.declared.nodes.Node.TheVariants as node
-use Rattle.reader.specs.Fields.{In, then}
+use Rattle.reader.specs.Fields.{read_in, then}
 use Rattle.reader.specs.Nodes.{body_at}
 use Rattle.reader.proofs.Parts.{node-reads}
 use Rattle.checker.specs.Walks.{context}
-use Rattle.checker.proofs.Paths.{Answer, path_return, path_branch, path_call, after-body, taken}
+use Rattle.checker.proofs.Paths.{answer_at, path_return, path_branch, path_call, after-body, taken}
 use Rattle.checker.proofs.walks.Walk.+body.Goals as goal
 
 pub returns-in_err-node : goal.returns-in_err-node
@@ -60,7 +60,7 @@ returns-in_err-second-in-Branch t c = record {
       let x = c.in_err-second-in-Branch.field-0.0 in
       let e : c.from_residual-in_err-second-in-Branch.result ≡ Err x = search rules in
       e
-      ∙ ap (λ (y : Result ℕ Fault). then y (λ _. Answer P w.window.function F H r.second)) (c.in_err-second-in-Branch.ensures.answer P F r.first s r.reads_first)
+      ∙ ap (λ (y : Result ℕ Fault). then y (λ _. answer_at P w.window.function F H r.second)) (c.in_err-second-in-Branch.ensures.answer P F r.first s r.reads_first)
       ∙ path_branch w P F s H u c.args.place b.value r.first r.second (Ok tt) r.is c.in_ok-test-in-Branch.ensures;
   onward = search rules;
 }
@@ -74,9 +74,9 @@ returns-in_ok-second-in-Branch t c = record {
       let r = taken w c.args.ifs c.args.place c.in_ok-node.next u c.in_ok-node.node (node.Branch b.value b.field b.length) h c.in_ok-node.ensures.reads b.is in
       let one = c.in_ok-second-in-Branch.ensures.answer P F r.first s r.reads_first in
       let there = after-body _ c.in_ok-second-in-Branch.second r.first.1 one in
-      let two = c.body-in-Branch.ensures.answer P F r.second s (ap (In w.window body_at (c.args.ifs + 1)) there ∙ r.reads_second) in
+      let two = c.body-in-Branch.ensures.answer P F r.second s (ap (read_in w.window body_at (c.args.ifs + 1)) there ∙ r.reads_second) in
       two
-      ∙ ap (λ (y : Result ℕ Fault). then y (λ _. Answer P w.window.function F H r.second)) one
+      ∙ ap (λ (y : Result ℕ Fault). then y (λ _. answer_at P w.window.function F H r.second)) one
       ∙ path_branch w P F s H u c.args.place b.value r.first r.second (Ok tt) r.is c.in_ok-test-in-Branch.ensures;
   onward = search rules;
 }
