@@ -24,10 +24,10 @@ length-rows (s ∷ ss) memory = ap suc (length-rows ss (drop 256 memory))
 block-next : (i : ℕ) (memory : List ℕ) → block 256 i (drop 256 memory) ≡ block 256 (suc i) memory
 block-next i memory = let w : 256 + 256 * i ≡ 256 * suc i = omega arith in ap (take 256) (drop-drop (256 * i) 256 memory ∙ ap (λ (n : ℕ). drop n memory) w)
 
-get_d_rows : (ss : List Slot) (memory : List ℕ) (i : ℕ) (d : Row) (e : Slot) → i < length ss → get_or (slab_rows ss memory) i d ≡ row (get_or ss i e) (block 256 i memory)
-get_d_rows [] memory i d e h = absurd (let y : ⊥ = omega arith in y)
-get_d_rows (s ∷ ss) memory zero d e h = refl
-get_d_rows (s ∷ ss) memory (suc i) d e h = get_d_rows ss (drop 256 memory) i d e (omega arith) ∙ ap (row (get_or ss i e)) (block-next i memory)
+get_or-rows : (ss : List Slot) (memory : List ℕ) (i : ℕ) (d : Row) (e : Slot) → i < length ss → get_or (slab_rows ss memory) i d ≡ row (get_or ss i e) (block 256 i memory)
+get_or-rows [] memory i d e h = absurd (let y : ⊥ = omega arith in y)
+get_or-rows (s ∷ ss) memory zero d e h = refl
+get_or-rows (s ∷ ss) memory (suc i) d e h = get_or-rows ss (drop 256 memory) i d e (omega arith) ∙ ap (row (get_or ss i e)) (block-next i memory)
 
 -- slot i has another record, and its block other bytes
 rows_change : (ss : List Slot) (memory changed : List ℕ) (i : ℕ) (s : Slot) → i < length ss
@@ -39,7 +39,7 @@ rows_change ss memory changed i s h others =
     let e = length-rows (set ss i s) changed in
     let f = length-set ss i s in
     let b' : k < length (set ss i s) = omega arith in
-    get_d_rows (set ss i s) changed k d s b' ∙ at k d (omega arith) (cases_eq k i)
+    get_or-rows (set ss i s) changed k d s b' ∙ at k d (omega arith) (cases_eq k i)
   where
     at : (k : ℕ) (d : Row) → k < length ss → (k ≡ i) ⊎ (k ≡ i → ⊥) → row (get_or (set ss i s) k s) (block 256 k changed) ≡ get_or (set (slab_rows ss memory) i (row s (block 256 i changed))) k d
     at k d b (inl w) =
@@ -49,7 +49,7 @@ rows_change ss memory changed i s h others =
     at k d b (inr n) =
         ap (λ (x : Slot). row x (block 256 k changed)) (get_or-set_other ss i k s s n)
         ∙ ap (row (get_or ss k s)) (others k n)
-        ∙ sym (get_d_rows ss memory k d s b)
+        ∙ sym (get_or-rows ss memory k d s b)
         ∙ sym (get_or-set_other (slab_rows ss memory) i k _ d n)
 
 -- ---- rows by their places
@@ -58,7 +58,7 @@ nowhere = record { name = None; holder = 0; size = 0; small = omega arith }
 
 module _ (ss : List Slot) (memory : List ℕ) (i : ℕ) (h : i < length ss) where
   pub row_is : (x : Slot) → row_at (slab_rows ss memory) i ≡ row (get_or ss i x) (block 256 i memory)
-  row_is x = get_d_rows ss memory i blank x h
+  row_is x = get_or-rows ss memory i blank x h
 
   module _ (whole : length memory ≡ 256 * length ss) where
     length_full : length (block 256 i memory) ≡ 256
