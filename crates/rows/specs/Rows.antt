@@ -1,5 +1,5 @@
 -- The values of a row, as a list.
-use Rattle.std.specs.Prelude.{ℕ, zero, suc, Bool, true, false, List, [], ◌∷◌, ◌++◌, take, Some, None, Option}
+use Rattle.std.specs.Prelude.{ℕ, zero, suc, List, [], ◌∷◌, take, Some, None, Option}
 use Rattle.rows.specs.declared.row.Row.{Row}
 
 abbrev pub items : {T : Type 0} {n : ℕ} → Row T n → List T
@@ -10,8 +10,3 @@ abbrev pub nth : {T : Type 0} → List T → ℕ → Option T
 nth [] i = None
 nth (x ∷ xs) zero = Some x
 nth (x ∷ xs) (suc i) = nth xs i
-
--- one value more, where there was room
-abbrev pub pushed : {T : Type 0} → Bool → List T → T → List T
-pushed true xs x = xs ++ x ∷ []
-pushed false xs x = xs

@@ -6,6 +6,7 @@ use std::alloc::AllocError;
 pub mod calls;
 
 /// At most `N` values, in order. Nothing of it lies on the heap.
+// Marks are copied at each branch, which no vector of the kit without heap can be: so it is a type of its own.
 pub struct Row<T: Copy, const N: usize> {
     len: usize,
     items: [T; N],
@@ -13,6 +14,7 @@ pub struct Row<T: Copy, const N: usize> {
     ghost whole: { length items ≡ N },
 }
 
+// By hand, as `Clone` is not derived for a struct with ghost fields.
 impl<T: Copy, const N: usize> Clone for Row<T, N> {
     ghost is_clone = { λ x y. x ≡ y };
 
@@ -24,3 +26,7 @@ impl<T: Copy, const N: usize> Clone for Row<T, N> {
 }
 
 impl<T: Copy, const N: usize> Copy for Row<T, N> {}
+
+/// There is no room for one value more.
+#[derive(Debug, Clone, Copy, PartialEq, Eq)]
+pub struct Full;

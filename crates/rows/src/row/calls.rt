@@ -1,8 +1,8 @@
 //! What can be done with a row.
-ghost use Rattle.std.specs.Prelude.{◌≡◌, [], length, nat_lt, slice_set};
-ghost use Rattle.rows.specs.Rows.{items, nth, pushed};
+ghost use Rattle.std.specs.Prelude.{◌≡◌, ◌<◌, ◌↔◌, [], ◌∷◌, ◌++◌, length, slice_set, IsTrue, IsOk, OnOk, OnErr};
+ghost use Rattle.rows.specs.Rows.{items, nth};
 
-use super::Row;
+use super::{Full, Row};
 
 impl<T: Copy, const N: usize> Row<T, N> {
     /// A row of none; the filler only takes the place of values to come.
@@ -15,21 +15,29 @@ impl<T: Copy, const N: usize> Row<T, N> {
         }
     }
 
+    pub fn as_slice(&self) -> &[T]
+        ensures { result.now ≡ items self.now }
+    {
+        &self.items[..self.len]
+    }
+
     pub fn len(&self) -> usize
         ensures { result ≡ length (items self.now) }
     {
-        let values = self.len;
-        values
+        self.as_slice().len()
+    }
+
+    pub fn is_empty(&self) -> bool
+        ensures { IsTrue result ↔ (items self.now ≡ []) }
+    {
+        self.as_slice().is_empty()
     }
 
     /// The value at a place, if there is one.
     pub fn get(&self, i: usize) -> Option<T>
         ensures { result ≡ nth (items self.now) i }
     {
-        if i >= self.len {
-            return None;
-        }
-        Some(self.items[i])
+        self.as_slice().get(i).copied()
     }
 
     /// Another value at a place; nothing changes where there is none.
@@ -41,17 +49,18 @@ impl<T: Copy, const N: usize> Row<T, N> {
         }
     }
 
-    /// One value more at the end; false, and nothing changes, where the row is full.
-    pub fn push(&mut self, x: T) -> bool
-        ensures room { result ≡ nat_lt (length (items self.old)) N }
-        ensures after { items self.new ≡ pushed result (items self.old) x }
+    /// One value more at the end.
+    pub fn push(&mut self, x: T) -> Result<(), Full>
+        ensures room { IsOk result ↔ (length (items self.old) < N) }
+        ensures ok { OnOk result (items self.new ≡ items self.old ++ x ∷ []) }
+        ensures err { OnErr result (self.new ≡ self.old) }
     {
         let end = self.len;
         if end >= N {
-            return false;
+            return Err(Full);
         }
         self.items[end] = x;
         self.len = end + 1;
-        true
+        Ok(())
     }
 }
