@@ -104,7 +104,7 @@ list_at b e f p = then (count_at b e f p) λ n. values_at b e f n.0 n.1
 
 -- what a definition over bytes, an end and a function says in a window
 abbrev pub read_in : {X : Type 0} → Window → (List ℕ → ℕ → ℕ → X) → X
-read_in w g = g w.bytes.now w.end w.function
+read_in w g = g w.bytes.now (length w.bytes.now) w.function
 
 -- the place after what is read
 abbrev pub placed : {X : Type 0} → Read X → Result ℕ Fault

@@ -1,5 +1,5 @@
 //! Fields and values: from a place to what stands there and the place after it.
-ghost use Rattle.std.specs.Prelude.{◌≡◌, ◌<◌, ◌≤◌, IfOk};
+ghost use Rattle.std.specs.Prelude.{◌≡◌, ◌<◌, ◌≤◌, IfOk, length};
 ghost use Rattle.reader.specs.Fields.{read_in, byte_at, half_at, word_at, value_at, type_at, range_at, count_at, values_at, list_at, Onward, placed, listed};
 ghost use Rattle.reader.specs.Faults.{fault};
 
@@ -20,9 +20,9 @@ impl Window<'_> {
     /// One byte.
     pub fn byte(&self, place: usize) -> Result<(u8, usize), Fault>
         ensures reads { result ≡ read_in self.now byte_at place }
-        ensures onward { Onward place self.now.end result }
+        ensures onward { Onward place (length self.now.bytes.now) result }
     {
-        if place >= self.end {
+        if place >= self.bytes.len() {
             return Err(self.fault(Question::Inside, place));
         }
         Ok((self.bytes[place], place + 1))
@@ -31,9 +31,9 @@ impl Window<'_> {
     /// Two bytes, the larger part first.
     pub fn half(&self, place: usize) -> Result<(u16, usize), Fault>
         ensures reads { result ≡ read_in self.now half_at place }
-        ensures onward { Onward place self.now.end result }
+        ensures onward { Onward place (length self.now.bytes.now) result }
     {
-        if self.end < 2 || place > self.end - 2 {
+        if self.bytes.len() < 2 || place > self.bytes.len() - 2 {
             return Err(self.fault(Question::Inside, place));
         }
         let high = u16::from(self.bytes[place]);
@@ -44,9 +44,9 @@ impl Window<'_> {
     /// Four bytes, the larger part first.
     pub fn word(&self, place: usize) -> Result<(u32, usize), Fault>
         ensures reads { result ≡ read_in self.now word_at place }
-        ensures onward { Onward place self.now.end result }
+        ensures onward { Onward place (length self.now.bytes.now) result }
     {
-        if self.end < 4 || place > self.end - 4 {
+        if self.bytes.len() < 4 || place > self.bytes.len() - 4 {
             return Err(self.fault(Question::Inside, place));
         }
         let high = u32::from(self.bytes[place]) * 256 + u32::from(self.bytes[place + 1]);
@@ -57,7 +57,7 @@ impl Window<'_> {
     /// A value, and the place after it.
     pub fn value(&self, place: usize) -> Result<(Value, usize), Fault>
         ensures reads { result ≡ read_in self.now value_at place }
-        ensures onward { Onward place self.now.end result }
+        ensures onward { Onward place (length self.now.bytes.now) result }
     {
         let (tag, next) = self.byte(place)?;
         match tag {
@@ -84,7 +84,7 @@ impl Window<'_> {
     /// A type.
     pub fn ty(&self, place: usize) -> Result<(Ty, usize), Fault>
         ensures reads { result ≡ read_in self.now type_at place }
-        ensures onward { Onward place self.now.end result }
+        ensures onward { Onward place (length self.now.bytes.now) result }
     {
         let (code, next) = self.byte(place)?;
         match code {
@@ -105,7 +105,7 @@ impl Window<'_> {
         place: usize,
     ) -> Result<(u8, usize), Fault>
         ensures reads { result ≡ read_in self.now (range_at question low high) place }
-        ensures onward { Onward place self.now.end result }
+        ensures onward { Onward place (length self.now.bytes.now) result }
     {
         let (value, next) = self.byte(place)?;
         if value < low || value > high {
@@ -117,7 +117,7 @@ impl Window<'_> {
     /// A count of at most 8.
     pub fn count(&self, place: usize) -> Result<(u8, usize), Fault>
         ensures reads { result ≡ read_in self.now count_at place }
-        ensures onward { Onward place self.now.end result }
+        ensures onward { Onward place (length self.now.bytes.now) result }
     {
         self.range(Question::ListLength, 0, 8, place)
     }
@@ -125,7 +125,7 @@ impl Window<'_> {
     /// The place after `count` values.
     fn values(&self, count: u8, place: usize) -> Result<usize, Fault>
         ensures reads { result ≡ placed (read_in self.now values_at count place) }
-        ensures later { IfOk result (λ z. (place ≤ z) × (place ≤ self.now.end → z ≤ self.now.end)) }
+        ensures later { IfOk result (λ z. (place ≤ z) × (place ≤ length self.now.bytes.now → z ≤ length self.now.bytes.now)) }
     {
         let mut next = place;
         for _i in 0..count {
@@ -138,7 +138,7 @@ impl Window<'_> {
     /// A count and that many values: where they stand.
     pub(crate) fn list(&self, place: usize) -> Result<(Values, usize), Fault>
         ensures reads { result ≡ listed place (read_in self.now list_at place) }
-        ensures onward { Onward place self.now.end result }
+        ensures onward { Onward place (length self.now.bytes.now) result }
     {
         let (count, first) = self.count(place)?;
         let next = self.values(count, first)?;

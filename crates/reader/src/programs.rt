@@ -41,7 +41,7 @@ impl Window<'_> {
         let next = self.signature(next)?;
         let next = self.signature(next)?;
         let next = self.body(0, next)?;
-        if next != self.end {
+        if next != self.bytes.len() {
             return Err(self.fault(Question::NothingLeft, next));
         }
         Ok(next)
@@ -70,22 +70,8 @@ impl Window<'_> {
 fn record(program: &[u8], function: u8, place: usize) -> Result<usize, Fault>
     ensures { result ≡ placed (record_at program.now (length program.now) function place) }
 {
-    let outer = Window {
-        bytes: program,
-        end: program.len(),
-        function,
-    };
-    let (length, next) = outer.half(place)?;
-    let length = usize::from(length);
-    if length > program.len() - next {
-        return Err(outer.fault(Question::Inside, place));
-    }
-    let window = Window {
-        bytes: program,
-        end: next + length,
-        function,
-    };
-    window.contents(place, next)
+    let (window, first) = Window::record(program, function, place)?;
+    window.contents(place, first)
 }
 
 /// The place after `count` records.
@@ -118,7 +104,6 @@ fn whole(program: &[u8]) -> Result<Header, Fault>
     }
     let window = Window {
         bytes: program,
-        end: program.len(),
         function: OUTSIDE,
     };
     let (header, next) = window.header(2)?;

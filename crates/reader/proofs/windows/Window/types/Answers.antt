@@ -1,15 +1,15 @@
-use Rattle.std.proofs.Common.{arith, rules}
+use Rattle.std.proofs.Common.{arith, rules, length}
 use Rattle.reader.proofs.Rows.{types_more}
 use Rattle.reader.proofs.windows.Window.types.Goals as goal
 
 pub returns-in_err-after : goal.returns-in_err-after
 returns-in_err-after c =
     let s = c.args.self.now in
-    let m = types_more s.bytes.now s.end s.function c.args.count c.loop-i._i c.loop-i.next (omega arith) in
+    let m = types_more s.bytes.now (length s.bytes.now) s.function c.args.count c.loop-i._i c.loop-i.next (omega arith) in
     search rules
 
 pub loop-i-preserved : goal.loop-i-preserved
 loop-i-preserved c =
     let s = c.args.self.now in
-    let m = types_more s.bytes.now s.end s.function c.args.count c.loop-i._i c.loop-i.next (omega arith) in
+    let m = types_more s.bytes.now (length s.bytes.now) s.function c.args.count c.loop-i._i c.loop-i.next (omega arith) in
     search rules

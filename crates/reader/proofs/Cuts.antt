@@ -1,0 +1,96 @@
+-- What is read up to a place is read of the bytes cut there.
+use Rattle.std.proofs.Common.{◌≡◌, ℕ, zero, suc, ◌+◌, ◌-◌, ◌≤◌, Bool, true, false, eqb, leb, List, length, get_or, take, Ok, Result, sym, refl, ap, ◌∙◌, arith}
+use Rattle.std.proofs.lemmas.List.{get_or-take, length-take-le}
+use Rattle.std.proofs.lemmas.Bool.Decides.{nat_tests}
+use Rattle.reader.specs.declared.questions.Question.{Question}
+use Rattle.reader.specs.declared.questions.Question.TheVariants as q
+use Rattle.reader.specs.declared.faults.Fault.{Fault}
+use Rattle.reader.specs.declared.windows.Window.{Window}
+use Rattle.reader.specs.Fields.{Read, denied, half, then, read_in, field_at, byte_at, half_at, word_at, range_at, count_at, type_at, value_at, values_at, list_at}
+use Rattle.reader.specs.Nodes.{if_at, call_at, node_at, followed, body_by, body_at}
+use Rattle.reader.specs.Programs.{types_at, signature_at, record_in, record_at}
+use Rattle.reader.proofs.Results.{then_both, choose_same}
+
+module _ (b : List ℕ) (e f : ℕ) where
+  field_cut : (w n m p : ℕ) → (p + w ≤ e → n ≡ m) → field_at w n e f p ≡ field_at w m e f p
+  field_cut w n m p same = grind (arith, nat_tests)
+
+  pub byte_cut : (p : ℕ) → byte_at (take e b) e f p ≡ byte_at b e f p
+  byte_cut p = field_cut 1 _ _ p (λ l. get_or-take e b p 0 (omega arith))
+
+  pub half_cut : (p : ℕ) → half_at (take e b) e f p ≡ half_at b e f p
+  half_cut p = field_cut 2 _ _ p (λ l. omega (arith, get_or-take e b p 0 (omega arith), get_or-take e b (p + 1) 0 (omega arith)))
+
+  pub word_cut : (p : ℕ) → word_at (take e b) e f p ≡ word_at b e f p
+  word_cut p =
+      field_cut 4 _ _ p λ l.
+      omega (arith, get_or-take e b p 0 (omega arith), get_or-take e b (p + 1) 0 (omega arith), get_or-take e b (p + 2) 0 (omega arith), get_or-take e b (p + 3) 0 (omega arith))
+
+  pub range_cut : (k : Question) (low high p : ℕ) → range_at k low high (take e b) e f p ≡ range_at k low high b e f p
+  range_cut k low high p = then_both _ _ (byte_cut p) (λ n. refl)
+
+  pub type_cut : (p : ℕ) → type_at (take e b) e f p ≡ type_at b e f p
+  type_cut p = then_both _ _ (byte_cut p) (λ n. refl)
+
+  pub value_cut : (p : ℕ) → value_at (take e b) e f p ≡ value_at b e f p
+  value_cut p =
+      then_both _ _ (byte_cut p) λ t.
+      choose_same (eqb t.0 16) _ _ _ _ (then_both _ _ (word_cut t.1) (λ n. refl))
+      (choose_same (eqb t.0 17) _ _ _ _ (then_both _ _ (byte_cut t.1) (λ n. refl))
+      (choose_same (eqb t.0 18) _ _ _ _ (then_both _ _ (byte_cut t.1) (λ n. refl)) refl))
+
+  pub values_cut : (n p : ℕ) → values_at (take e b) e f n p ≡ values_at b e f n p
+  values_cut zero p = refl
+  values_cut (suc n) p = then_both _ _ (value_cut p) λ v. then_both _ _ (values_cut n v.1) (λ vs. refl)
+
+  pub list_cut : (p : ℕ) → list_at (take e b) e f p ≡ list_at b e f p
+  list_cut p = then_both _ _ (range_cut q.ListLength 0 8 p) (λ n. values_cut n.0 n.1)
+
+  pub types_cut : (n p : ℕ) → types_at (take e b) e f n p ≡ types_at b e f n p
+  types_cut zero p = refl
+  types_cut (suc n) p = then_both _ _ (type_cut p) λ t. then_both _ _ (types_cut n t.1) (λ ts. refl)
+
+  pub signature_cut : (p : ℕ) → signature_at (take e b) e f p ≡ signature_at b e f p
+  signature_cut p = then_both _ _ (range_cut q.ListLength 0 8 p) (λ n. types_cut n.0 n.1)
+
+  if_cut : (ifs p z : ℕ) → if_at (take e b) e f ifs p z ≡ if_at b e f ifs p z
+  if_cut ifs p z = choose_same (leb 16 ifs) _ _ _ _ refl (then_both _ _ (value_cut z) (λ v. then_both _ _ (half_cut v.1) (λ n. refl)))
+
+  call_cut : (z : ℕ) → call_at (take e b) e f z ≡ call_at b e f z
+  call_cut z =
+      then_both _ _ (byte_cut z) λ k. then_both _ _ (byte_cut k.1) λ i. then_both _ _ (list_cut i.1) λ a. then_both _ _ (range_cut q.ListLength 0 8 a.1) (λ n. refl)
+
+  pub node_cut : (ifs p : ℕ) → node_at (take e b) e f ifs p ≡ node_at b e f ifs p
+  node_cut ifs p =
+      then_both _ _ (byte_cut p) λ t.
+      choose_same (eqb t.0 1) _ _ _ _ (then_both _ _ (list_cut t.1) (λ a. refl))
+      (choose_same (eqb t.0 2) _ _ _ _ (if_cut ifs p t.1)
+      (choose_same (eqb t.0 3) _ _ _ _ (call_cut t.1) refl))
+
+  pub body-cut : (k ifs p : ℕ) → body_by (take e b) e f k ifs p ≡ body_by b e f k ifs p
+  unfolding body_by
+  body-cut zero ifs p = refl
+  body-cut (suc k) ifs p = then_both _ _ (node_cut ifs p) λ h. λ i. followed (λ n z. body-cut k n z i) f ifs p h.0 h.1
+
+  pub record_cut : (p s : ℕ) → record_in (take e b) e f p s ≡ record_in b e f p s
+  record_cut p s =
+      then_both _ _ (range_cut q.DepthLimit 0 7 s) λ d. then_both _ _ (signature_cut d.1) λ ps. then_both _ _ (signature_cut ps.1) λ rs.
+      then_both _ _ (then_both _ _ (body-cut (e - rs.1) 0 rs.1) (λ t. refl)) (λ x. refl)
+
+-- what is said in a window is said at its end
+pub read_cut : {X : Type 0} (b : List ℕ) (e : ℕ) (w : Window) (g : List ℕ → ℕ → ℕ → X) → e ≤ length b → w.bytes.now ≡ take e b → g (take e b) e w.function ≡ g b e w.function
+    → read_in w g ≡ g b e w.function
+read_cut b e w g h k same = ap (λ x. g x (length x) w.function) k ∙ ap (λ n. g (take e b) n w.function) (length-take-le e b h) ∙ same
+
+-- what follows the length of a record that lies inside
+pub opened : {X : Type 0} (b : List ℕ) (f p : ℕ) (g : ℕ → ℕ → Result X Fault) → p + 2 + half b p ≤ length b
+    → then (half_at b (length b) f p) (λ n. elim (leb (n.1 + n.0) (length b)) [ true ↦ g (n.1 + n.0) n.1 | false ↦ denied q.Inside f p ]) ≡ g (p + 2 + half b p) (p + 2)
+opened b f p g h = grind (arith, nat_tests)
+
+pub record_opened : (b : List ℕ) (f p s : ℕ) (w : Window) → p + 2 + half b p ≤ length b → w.bytes.now ≡ take (p + 2 + half b p) b → w.function ≡ f → s ≡ p + 2
+    → read_in w record_in p s ≡ record_at b (length b) f p
+record_opened b f p s w h k i j =
+    let e = p + 2 + half b p in
+    read_cut b e w (λ c z g. record_in c z g p s) h k (record_cut b e w.function p s)
+    ∙ (λ n. record_in b e (i n) p (j n))
+    ∙ sym (opened b f p (λ z t. record_in b z f p t) h)
