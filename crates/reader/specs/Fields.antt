@@ -1,6 +1,6 @@
 -- Fields and values: what stands at a place, or the first fault.
 -- b are the bytes, e is where the record or program that encloses the field ends, f the function that a fault carries, p the place.
-use Rattle.std.specs.Prelude.{ℕ, zero, suc, ◌+◌, ◌*◌, ◌<◌, ◌≤◌, true, false, ◌&&◌, List, [], ◌∷◌, length, IfOk, Ok, Err, Result, ◌==◌, nat_le, slice_index}
+use Rattle.std.specs.Prelude.{ℕ, zero, suc, ◌+◌, ◌*◌, ◌<◌, ◌≤◌, true, false, ◌&&◌, List, [], ◌∷◌, length, take, drop, IfOk, Ok, Err, Result, ◌==◌, nat_le, slice_index}
 use Rattle.reader.specs.declared.questions.Question.{Question}
 use Rattle.reader.specs.declared.questions.Question.TheVariants as q
 use Rattle.reader.specs.declared.faults.Fault.{Fault}
@@ -36,6 +36,10 @@ word b p = half b p * 65536 + (slice_index b (p + 2) * 256 + slice_index b (p + 
 -- a field of w bytes whose value is n
 abbrev pub field_at : (w n e f p : ℕ) → Read ℕ
 field_at w n e f p = elim (nat_le (p + w) e) [ true ↦ Ok (n, p + w) | false ↦ denied q.Inside f p ]
+
+-- w bytes as they stand
+abbrev pub bytes_at : ℕ → List ℕ → (e f p : ℕ) → Read (List ℕ)
+bytes_at w b e f p = elim (nat_le (p + w) e) [ true ↦ Ok (take w (drop p b), p + w) | false ↦ denied q.Inside f p ]
 
 abbrev pub byte_at : List ℕ → (e f p : ℕ) → Read ℕ
 byte_at b e f p = field_at 1 (slice_index b p) e f p

@@ -1,6 +1,6 @@
 //! Fields and values: from a place to what stands there and the place after it.
 ghost use Rattle.std.specs.Prelude.{◌≡◌, ◌<◌, ◌≤◌, IfOk, length};
-ghost use Rattle.reader.specs.Fields.{read_in, byte_at, half_at, word_at, value_at, type_at, range_at, count_at, values_at, list_at, Onward, placed, listed};
+ghost use Rattle.reader.specs.Fields.{read_in, bytes_at, byte_at, half_at, word_at, value_at, type_at, range_at, count_at, values_at, list_at, Onward, placed, listed};
 ghost use Rattle.reader.specs.Faults.{fault};
 
 use crate::faults::Fault;
@@ -11,10 +11,20 @@ use crate::windows::Window;
 
 impl Window<'_> {
     /// The fault of a question at a place of this window.
-    pub(crate) fn fault(&self, question: Question, place: usize) -> Fault
+    pub fn fault(&self, question: Question, place: usize) -> Fault
         ensures { result ≡ fault question self.now.function place }
     {
         Fault::new(question, self.function, place)
+    }
+
+    /// The `N` bytes at a place.
+    fn field<const N: usize>(&self, place: usize) -> Result<([u8; N], usize), Fault>
+        ensures { result ≡ read_in self.now (bytes_at N) place }
+    {
+        match self.bytes.get(place..).and_then(<[u8]>::first_chunk::<N>) {
+            Some(bytes) => Ok((*bytes, place + N)),
+            None => Err(self.fault(Question::Inside, place)),
+        }
     }
 
     /// One byte.
@@ -22,10 +32,8 @@ impl Window<'_> {
         ensures reads { result ≡ read_in self.now byte_at place }
         ensures onward { Onward place (length self.now.bytes.now) result }
     {
-        if place >= self.bytes.len() {
-            return Err(self.fault(Question::Inside, place));
-        }
-        Ok((self.bytes[place], place + 1))
+        let ([byte], next) = self.field::<1>(place)?;
+        Ok((byte, next))
     }
 
     /// Two bytes, the larger part first.
@@ -33,12 +41,8 @@ impl Window<'_> {
         ensures reads { result ≡ read_in self.now half_at place }
         ensures onward { Onward place (length self.now.bytes.now) result }
     {
-        if self.bytes.len() < 2 || place > self.bytes.len() - 2 {
-            return Err(self.fault(Question::Inside, place));
-        }
-        let high = u16::from(self.bytes[place]);
-        let low = u16::from(self.bytes[place + 1]);
-        Ok((high * 256 + low, place + 2))
+        let (bytes, next) = self.field(place)?;
+        Ok((u16::from_be_bytes(bytes), next))
     }
 
     /// Four bytes, the larger part first.
@@ -46,12 +50,8 @@ impl Window<'_> {
         ensures reads { result ≡ read_in self.now word_at place }
         ensures onward { Onward place (length self.now.bytes.now) result }
     {
-        if self.bytes.len() < 4 || place > self.bytes.len() - 4 {
-            return Err(self.fault(Question::Inside, place));
-        }
-        let high = u32::from(self.bytes[place]) * 256 + u32::from(self.bytes[place + 1]);
-        let low = u32::from(self.bytes[place + 2]) * 256 + u32::from(self.bytes[place + 3]);
-        Ok((high * 65536 + low, place + 4))
+        let (bytes, next) = self.field(place)?;
+        Ok((u32::from_be_bytes(bytes), next))
     }
 
     /// A value, and the place after it.
