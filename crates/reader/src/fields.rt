@@ -41,7 +41,7 @@ impl Window<'_> {
         ensures reads { result ≡ read_in self.now half_at place }
         ensures onward { Onward place (length self.now.bytes.now) result }
     {
-        let (bytes, next) = self.field(place)?;
+        let (bytes, next) = self.field::<2>(place)?;
         Ok((u16::from_be_bytes(bytes), next))
     }
 
@@ -50,7 +50,7 @@ impl Window<'_> {
         ensures reads { result ≡ read_in self.now word_at place }
         ensures onward { Onward place (length self.now.bytes.now) result }
     {
-        let (bytes, next) = self.field(place)?;
+        let (bytes, next) = self.field::<4>(place)?;
         Ok((u32::from_be_bytes(bytes), next))
     }
 
