@@ -77,20 +77,19 @@ module _ (b : List ℕ) (e f : ℕ) where
       then_both _ _ (range_cut q.DepthLimit 0 7 s) λ d. then_both _ _ (signature_cut d.1) λ ps. then_both _ _ (signature_cut ps.1) λ rs.
       then_both _ _ (then_both _ _ (body-cut (e - rs.1) 0 rs.1) (λ t. refl)) (λ x. refl)
 
--- what is said in a window is said at its end
-pub read_cut : {X : Type 0} (b : List ℕ) (e : ℕ) (w : Window) (g : List ℕ → ℕ → ℕ → X) → e ≤ length b → w.bytes.now ≡ take e b → g (take e b) e w.function ≡ g b e w.function
-    → read_in w g ≡ g b e w.function
-read_cut b e w g h k same = ap (λ x. g x (length x) w.function) k ∙ ap (λ n. g (take e b) n w.function) (length-take-le e b h) ∙ same
+-- what is read in the window of the record of function f at p is read after the length that stands there
+module _ {X : Type 0} (b : List ℕ) (f p : ℕ) (g : List ℕ → (e f s : ℕ) → Result X Fault) where
+  -- the length leads inside
+  opened : p + 2 + half b p ≤ length b
+      → then (half_at b (length b) f p) (λ n. elim (leb (n.1 + n.0) (length b)) [ true ↦ g b (n.1 + n.0) f n.1 | false ↦ denied q.Inside f p ]) ≡ g b (p + 2 + half b p) f (p + 2)
+  opened h = grind (arith, nat_tests)
 
--- what follows the length of a record that lies inside
-pub opened : {X : Type 0} (b : List ℕ) (f p : ℕ) (g : ℕ → ℕ → Result X Fault) → p + 2 + half b p ≤ length b
-    → then (half_at b (length b) f p) (λ n. elim (leb (n.1 + n.0) (length b)) [ true ↦ g (n.1 + n.0) n.1 | false ↦ denied q.Inside f p ]) ≡ g (p + 2 + half b p) (p + 2)
-opened b f p g h = grind (arith, nat_tests)
-
-pub record_opened : (b : List ℕ) (f p s : ℕ) (w : Window) → p + 2 + half b p ≤ length b → w.bytes.now ≡ take (p + 2 + half b p) b → w.function ≡ f → s ≡ p + 2
-    → read_in w record_in p s ≡ record_at b (length b) f p
-record_opened b f p s w h k i j =
-    let e = p + 2 + half b p in
-    read_cut b e w (λ c z g. record_in c z g p s) h k (record_cut b e w.function p s)
-    ∙ (λ n. record_in b e (i n) p (j n))
-    ∙ sym (opened b f p (λ z t. record_in b z f p t) h)
+  pub read_opened : (w : Window) (s : ℕ) → ((e s : ℕ) → g (take e b) e f s ≡ g b e f s)
+      → p + 2 + half b p ≤ length b → w.bytes.now ≡ take (p + 2 + half b p) b → w.function ≡ f → s ≡ p + 2
+      → read_in w g s ≡ then (half_at b (length b) f p) (λ n. elim (leb (n.1 + n.0) (length b)) [ true ↦ g b (n.1 + n.0) f n.1 | false ↦ denied q.Inside f p ])
+  read_opened w s cut h bytes function first =
+      let e = p + 2 + half b p in
+      (λ i. g (bytes i) (length (bytes i)) (function i) (first i))
+      ∙ ap (λ n. g (take e b) n f (p + 2)) (length-take-le e b h)
+      ∙ cut e (p + 2)
+      ∙ sym (opened h)
