@@ -67,15 +67,18 @@ module _ (b : List ℕ) (e f : ℕ) where
       (choose_same (eqb t.0 2) _ _ _ _ (if_cut ifs p t.1)
       (choose_same (eqb t.0 3) _ _ _ _ (call_cut t.1) refl))
 
-  pub body-cut : (k ifs p : ℕ) → body_by (take e b) e f k ifs p ≡ body_by b e f k ifs p
+  pub body_by_cut : (k ifs p : ℕ) → body_by (take e b) e f k ifs p ≡ body_by b e f k ifs p
   unfolding body_by
-  body-cut zero ifs p = refl
-  body-cut (suc k) ifs p = then_both _ _ (node_cut ifs p) λ h. λ i. followed (λ n z. body-cut k n z i) f ifs p h.0 h.1
+  body_by_cut zero ifs p = refl
+  body_by_cut (suc k) ifs p = then_both _ _ (node_cut ifs p) λ h. λ i. followed (λ n z. body_by_cut k n z i) f ifs p h.0 h.1
+
+  pub body_cut : e ≤ length b → (ifs p : ℕ) → body_at (take e b) (length (take e b)) f ifs p ≡ body_at b e f ifs p
+  body_cut h ifs p = ap (λ n. body_at (take e b) n f ifs p) (length-take-le e b h) ∙ body_by_cut (e - p) ifs p
 
   pub record_cut : (p s : ℕ) → record_in (take e b) e f p s ≡ record_in b e f p s
   record_cut p s =
       then_both _ _ (range_cut q.DepthLimit 0 7 s) λ d. then_both _ _ (signature_cut d.1) λ ps. then_both _ _ (signature_cut ps.1) λ rs.
-      then_both _ _ (then_both _ _ (body-cut (e - rs.1) 0 rs.1) (λ t. refl)) (λ x. refl)
+      then_both _ _ (then_both _ _ (body_by_cut (e - rs.1) 0 rs.1) (λ t. refl)) (λ x. refl)
 
 -- what is read in the window of the record of function f at p is read after the length that stands there
 module _ {X : Type 0} (b : List ℕ) (f p : ℕ) (g : List ℕ → (e f s : ℕ) → Result X Fault) where
