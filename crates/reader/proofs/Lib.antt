@@ -1,4 +1,5 @@
 pub mod Results
+pub mod Skips
 pub mod Lists
 pub mod Following
 pub mod Rows

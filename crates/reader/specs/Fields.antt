@@ -1,6 +1,7 @@
 -- Fields and values: what stands at a place, or the first fault.
 -- b are the bytes, e is where the record or program that encloses the field ends, f the function that a fault carries, p the place.
-use Rattle.std.specs.Prelude.{ℕ, zero, suc, ◌+◌, ◌*◌, ◌<◌, ◌≤◌, true, false, ◌&&◌, List, [], ◌∷◌, length, take, drop, IfOk, Ok, Err, Result, ◌==◌, nat_le, slice_index}
+use Rattle.std.specs.Borrow.{Bor}
+use Rattle.std.specs.Prelude.{◌≡◌, ℕ, zero, suc, ◌+◌, ◌*◌, ◌<◌, ◌≤◌, true, false, ◌&&◌, List, [], ◌∷◌, length, take, drop, IfOk, Ok, Err, Result, ◌==◌, nat_le, slice_index}
 use Rattle.reader.specs.declared.questions.Question.{Question}
 use Rattle.reader.specs.declared.questions.Question.TheVariants as q
 use Rattle.reader.specs.declared.faults.Fault.{Fault}
@@ -105,6 +106,15 @@ values_at b e f (suc n) p =
 -- a count and that many values
 abbrev pub list_at : List ℕ → (e f p : ℕ) → Read (List Operand)
 list_at b e f p = then (count_at b e f p) λ n. values_at b e f n.0 n.1
+
+-- the place after n items in a row, each as `one` reads it, or the first fault
+abbrev pub skipped : {X : Type 0} → (ℕ → Read X) → (n p : ℕ) → Result ℕ Fault
+skipped one zero p = Ok p
+skipped one (suc n) p = then (one p) λ x. skipped one n x.1
+
+-- what code may read at a place of a window is what `one` says
+abbrev pub ReadsAs : {X : Type 0} → (Bor Window → ℕ → Read X → Type 0) → Window → (ℕ → Read X) → Type 0
+ReadsAs {X} reads w one = (v : Bor Window) (p : ℕ) (x : Read X) → v.now ≡ w → reads v p x → x ≡ one p
 
 -- what a definition over bytes, an end and a function says in a window
 abbrev pub read_in : {X : Type 0} → Window → (List ℕ → ℕ → ℕ → X) → X

@@ -1,6 +1,6 @@
 //! Fields and values: from a place to what stands there and the place after it.
-ghost use Rattle.std.specs.Prelude.{◌≡◌, ◌<◌, ◌≤◌, IfOk, length};
-ghost use Rattle.reader.specs.Fields.{read_in, bytes_at, byte_at, half_at, word_at, value_at, type_at, range_at, count_at, values_at, list_at, Onward, placed, listed};
+ghost use Rattle.std.specs.Prelude.{◌≡◌, ℕ, length};
+ghost use Rattle.reader.specs.Fields.{Read, read_in, bytes_at, byte_at, half_at, word_at, value_at, type_at, range_at, count_at, list_at, Onward, listed, ReadsAs, skipped};
 ghost use Rattle.reader.specs.Faults.{fault};
 
 use crate::faults::Fault;
@@ -9,7 +9,7 @@ use crate::types::Ty;
 use crate::values::{Value, Values};
 use crate::windows::Window;
 
-impl Window<'_> {
+impl<'a> Window<'a> {
     /// The fault of a question at a place of this window.
     pub fn fault(&self, question: Question, place: usize) -> Fault
         ensures { result ≡ fault question self.now.function place }
@@ -122,15 +122,19 @@ impl Window<'_> {
         self.range(Question::ListLength, 0, 8, place)
     }
 
-    /// The place after `count` values.
-    fn values(&self, count: u8, place: usize) -> Result<usize, Fault>
-        ensures reads { result ≡ placed (read_in self.now values_at count place) }
-        ensures later { IfOk result (λ z. (place ≤ z) × (place ≤ length self.now.bytes.now → z ≤ length self.now.bytes.now)) }
+    /// The place after `count` items, each read by `item`.
+    pub(crate) fn skip<T: Drop, F: Fn(&Window<'a>, usize) -> Result<(T, usize), Fault>>(
+        &self,
+        count: u8,
+        place: usize,
+        item: F,
+    ) -> Result<usize, Fault>
+        requires { F.IsAlwaysCallable item }
+        ensures { (one : ℕ → Read T) → ReadsAs (F.post item) self.now one → result ≡ skipped one count place }
     {
         let mut next = place;
         for _i in 0..count {
-            let (_, after) = self.value(next)?;
-            next = after;
+            (_, next) = item(self, next)?;
         }
         Ok(next)
     }
@@ -141,7 +145,7 @@ impl Window<'_> {
         ensures onward { Onward place (length self.now.bytes.now) result }
     {
         let (count, first) = self.count(place)?;
-        let next = self.values(count, first)?;
+        let next = self.skip(count, first, Self::value)?;
         Ok((
             Values {
                 count,

@@ -1,7 +1,7 @@
 //! Records, and whole programs.
 ghost use Rattle.std.specs.Prelude.{◌≡◌, ◌<◌, ◌≤◌, true, length};
 ghost use Rattle.reader.specs.Fields.{read_in, Onward, placed};
-ghost use Rattle.reader.specs.Programs.{types_at, signature_at, record_in, record_at, records_at, length_ok, header_at, reading, headed};
+ghost use Rattle.reader.specs.Programs.{signature_at, record_in, record_at, records_at, length_ok, header_at, reading, headed};
 ghost use Rattle.reader.specs.Encoding.{ReadsBack, WrittenReads};
 
 use crate::faults::Fault;
@@ -13,24 +13,12 @@ use crate::windows::Window;
 const OUTSIDE: u8 = 255;
 
 impl Window<'_> {
-    /// The place after `count` types.
-    fn types(&self, count: u8, place: usize) -> Result<usize, Fault>
-        ensures { result ≡ placed (read_in self.now types_at count place) }
-    {
-        let mut next = place;
-        for _i in 0..count {
-            let (_, after) = self.ty(next)?;
-            next = after;
-        }
-        Ok(next)
-    }
-
     /// The place after a count and that many types.
     fn signature(&self, place: usize) -> Result<usize, Fault>
         ensures { result ≡ placed (read_in self.now signature_at place) }
     {
         let (count, next) = self.count(place)?;
-        self.types(count, next)
+        self.skip(count, next, Self::ty)
     }
 
     /// The place after what a record holds, which is the end of the window.
