@@ -10,6 +10,7 @@ use crate::windows::Window;
 
 impl Window<'_> {
     /// The place after a body that stands under `ifs` ifs.
+    #[tactic(auto, using(crate::proofs::Following::body_is))]
     pub(crate) fn body(&self, ifs: u8, place: usize) -> Result<usize, Fault>
         ensures reads { result ≡ placed (read_in self.now body_at ifs place) }
         ensures onward { IfOk result (λ z. (place < z) × (z ≤ length self.now.bytes.now)) }

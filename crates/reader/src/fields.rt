@@ -123,6 +123,7 @@ impl<'a> Window<'a> {
     }
 
     /// The place after `count` items, each read by `item`.
+    #[tactic(auto, using(crate::proofs::Skips::skipped_more))]
     pub(crate) fn skip<T: Drop, F: Fn(&Window<'a>, usize) -> Result<(T, usize), Fault>>(
         &self,
         count: u8,

@@ -63,6 +63,7 @@ fn record(program: &[u8], function: u8, place: usize) -> Result<usize, Fault>
 }
 
 /// The place after `count` records.
+#[tactic(auto, using(crate::proofs::Rows::records_more))]
 fn records(program: &[u8], count: u8, place: usize) -> Result<usize, Fault>
     ensures { result ≡ placed (records_at program.now (length program.now) count 0 place) }
 {
