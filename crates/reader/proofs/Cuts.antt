@@ -1,14 +1,14 @@
 -- What is read up to a place is read of the bytes cut there.
-use Rattle.std.proofs.Common.{◌≡◌, ℕ, zero, suc, ◌+◌, ◌-◌, ◌≤◌, Bool, true, false, eqb, leb, List, length, get_or, take, Ok, Result, sym, refl, ap, ◌∙◌, arith}
+use Rattle.std.proofs.Common.{◌≡◌, ℕ, zero, suc, ◌+◌, ◌-◌, ◌≤◌, true, false, eqb, leb, List, length, take, Result, sym, refl, ap, ◌∙◌, arith}
 use Rattle.std.proofs.lemmas.List.{get_or-take, length-take-le}
 use Rattle.std.proofs.lemmas.Bool.Decides.{nat_tests}
 use Rattle.reader.specs.declared.questions.Question.{Question}
 use Rattle.reader.specs.declared.questions.Question.TheVariants as q
 use Rattle.reader.specs.declared.faults.Fault.{Fault}
 use Rattle.reader.specs.declared.windows.Window.{Window}
-use Rattle.reader.specs.Fields.{Read, denied, half, then, read_in, field_at, byte_at, half_at, word_at, range_at, count_at, type_at, value_at, values_at, list_at}
+use Rattle.reader.specs.Fields.{denied, half, then, read_in, field_at, byte_at, half_at, word_at, range_at, type_at, value_at, values_at, list_at}
 use Rattle.reader.specs.Nodes.{if_at, call_at, node_at, followed, body_by, body_at}
-use Rattle.reader.specs.Programs.{types_at, signature_at, record_in, record_at}
+use Rattle.reader.specs.Programs.{types_at, signature_at, record_in}
 use Rattle.reader.proofs.Results.{then_both, choose_same}
 
 module _ (b : List ℕ) (e f : ℕ) where

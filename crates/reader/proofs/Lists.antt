@@ -1,12 +1,12 @@
 -- Values in a row: one more, and how many.
-use Rattle.std.proofs.Common.{◌≡◌, ℕ, zero, suc, ◌+◌, ◌-◌, ◌<◌, ◌≤◌, ◌&&◌, leb, List, ◌∷◌, length, get_or, IfOk, Ok, Err, sym, refl, ap, ◌∙◌, arith}
+use Rattle.std.proofs.Common.{◌≡◌, ℕ, zero, suc, ◌+◌, ◌<◌, ◌≤◌, ◌&&◌, leb, List, ◌∷◌, length, get_or, IfOk, Ok, Err, sym, refl, ap, ◌∙◌, arith}
 use Rattle.std.proofs.lemmas.Result.{IfOk-weaker}
 use Rattle.std.proofs.lemmas.Bool.Decides.{nat_tests}
 use Rattle.reader.specs.declared.values.Operand.{Operand}
 use Rattle.reader.specs.declared.questions.Question.{Question}
 use Rattle.reader.specs.Fields.{Read, then, byte_at, range_at, count_at, value_at, values_at, list_at, Onward, placed, listed, skipped}
 use Rattle.reader.proofs.Skips.{row_skipped}
-use Rattle.reader.proofs.Results.{made_any, made_then, then_ext, placed-then, then-place, then_ok, pass_ok, ok_same, go}
+use Rattle.reader.proofs.Results.{made_any, made_then, then_ok, pass_ok, ok_same, go}
 
 module _ (b : List ℕ) (e f : ℕ) where
   pub values_skipped : (n p : ℕ) → skipped (value_at b e f) n p ≡ placed (values_at b e f n p)

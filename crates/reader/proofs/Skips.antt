@@ -1,7 +1,6 @@
 -- Items in a row, skipped one after another.
-use Rattle.std.proofs.Common.{List, [], ◌≡◌, ℕ, zero, suc, ◌+◌, ◌-◌, ◌<◌, Ok, Err, Result, refl, ap, ◌∙◌, sym, arith}
+use Rattle.std.proofs.Common.{List, [], ◌≡◌, ℕ, zero, suc, ◌+◌, ◌-◌, ◌<◌, Ok, ap, ◌∙◌, sym, arith}
 use Rattle.std.specs.Borrow.{Bor}
-use Rattle.reader.specs.declared.faults.Fault.{Fault}
 use Rattle.reader.specs.declared.windows.Window.{Window}
 use Rattle.reader.specs.Fields.{Read, then, placed, ReadsAs, skipped}
 use Rattle.reader.proofs.Results.{then_ext, placed-then, then-place}

@@ -35,12 +35,12 @@ abbrev pub word : List ℕ → ℕ → ℕ
 word b p = half b p * 65536 + (slice_index b (p + 2) * 256 + slice_index b (p + 3))
 
 -- a field of w bytes whose value is n
-abbrev pub field_at : (w n e f p : ℕ) → Read ℕ
+abbrev pub field_at : {X : Type 0} → (w : ℕ) → X → (e f p : ℕ) → Read X
 field_at w n e f p = elim (nat_le (p + w) e) [ true ↦ Ok (n, p + w) | false ↦ denied q.Inside f p ]
 
 -- w bytes as they stand
 abbrev pub bytes_at : ℕ → List ℕ → (e f p : ℕ) → Read (List ℕ)
-bytes_at w b e f p = elim (nat_le (p + w) e) [ true ↦ Ok (take w (drop p b), p + w) | false ↦ denied q.Inside f p ]
+bytes_at w b e f p = field_at w (take w (drop p b)) e f p
 
 abbrev pub byte_at : List ℕ → (e f p : ℕ) → Read ℕ
 byte_at b e f p = field_at 1 (slice_index b p) e f p

@@ -108,7 +108,7 @@ impl<'a> Window<'a> {
         ensures onward { Onward place (length self.now.bytes.now) result }
     {
         let (value, next) = self.byte(place)?;
-        if value < low || value > high {
+        if !(low..=high).contains(&value) {
             return Err(self.fault(question, place));
         }
         Ok((value, next))

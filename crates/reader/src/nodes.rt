@@ -1,7 +1,7 @@
 //! Nodes: from the place of a tag to the node and the place of what follows it.
-ghost use Rattle.std.specs.Prelude.{◌≡◌, ◌+◌, IfOk, length};
+ghost use Rattle.std.specs.Prelude.{◌≡◌, IfOk, length};
 ghost use Rattle.reader.specs.Fields.{read_in, Onward};
-ghost use Rattle.reader.specs.Nodes.{call_at, node_at, sight, Nested};
+ghost use Rattle.reader.specs.Nodes.{node_at, sight, Nested};
 
 use crate::faults::Fault;
 use crate::operations::Operation;

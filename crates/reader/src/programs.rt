@@ -1,6 +1,6 @@
 //! Records, and whole programs.
-ghost use Rattle.std.specs.Prelude.{◌≡◌, ◌<◌, ◌≤◌, true, length};
-ghost use Rattle.reader.specs.Fields.{read_in, Onward, placed};
+ghost use Rattle.std.specs.Prelude.{◌≡◌, length};
+ghost use Rattle.reader.specs.Fields.{read_in, placed};
 ghost use Rattle.reader.specs.Programs.{signature_at, record_in, record_at, records_at, length_ok, header_at, reading, headed};
 ghost use Rattle.reader.specs.Encoding.{ReadsBack, WrittenReads};
 
@@ -79,9 +79,8 @@ fn has_its_length(program: &[u8]) -> bool
     ensures { result ≡ length_ok program.now }
 {
     let length = program.len();
-    2 <= length
-        && length <= 4096
-        && usize::from(program[0]) * 256 + usize::from(program[1]) + 2 == length
+    (2..=4096).contains(&length)
+        && usize::from(u16::from_be_bytes([program[0], program[1]])) + 2 == length
 }
 
 /// Layer 1 of a program: its counts, or the first fault.

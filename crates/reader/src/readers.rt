@@ -10,7 +10,7 @@ use crate::values::Value;
 use crate::windows::Window;
 
 /// A place in the caller's bytes. Each call reads what stands there and moves behind it, or reports a fault and stays.
-#[derive(Clone, Copy)]
+#[derive(Clone, Copy, Debug, PartialEq, Eq)]
 pub struct Reader<'a> {
     pub window: Window<'a>,
     pub place: usize,

@@ -7,7 +7,7 @@ use crate::faults::Fault;
 use crate::questions::Question;
 
 /// The caller's bytes up to the end of a record or of the program, and the function that a fault there carries.
-#[derive(Clone, Copy)]
+#[derive(Clone, Copy, Debug, PartialEq, Eq)]
 pub struct Window<'a> {
     pub bytes: &'a [u8],
     pub function: u8,
