@@ -46,6 +46,7 @@ impl<'a> Window<'a> {
     }
 
     /// Four bytes, the larger part first.
+    #[tactic(auto, using(crate::proofs::Spans::word_of))]
     pub fn word(&self, place: usize) -> Result<(u32, usize), Fault>
         ensures reads { result ≡ read_in self.now word_at place }
         ensures onward { Onward place (length self.now.bytes.now) result }

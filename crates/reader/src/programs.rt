@@ -68,8 +68,8 @@ fn records(program: &[u8], count: u8, place: usize) -> Result<usize, Fault>
     ensures { result ≡ placed (records_at program.now (length program.now) count 0 place) }
 {
     let mut next = place;
-    for i in 0..count {
-        next = record(program, i, next)?;
+    for function in 0..count {
+        next = record(program, function, next)?;
     }
     Ok(next)
 }
