@@ -1,4 +1,5 @@
 pub mod Results
+pub mod Skips
 pub mod Lists
 pub mod Following
 pub mod Rows
@@ -10,3 +11,4 @@ pub mod WritesRead
 pub mod WritesProgram
 pub mod Law
 pub mod Parts
+pub mod Cuts
