@@ -10,3 +10,4 @@ pub mod WritesRead
 pub mod WritesProgram
 pub mod Law
 pub mod Parts
+pub mod NoType
