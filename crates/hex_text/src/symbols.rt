@@ -3,7 +3,7 @@ ghost use Rattle.std.specs.Prelude.{◌≡◌};
 ghost use Rattle.hex_text.specs.Text.{digit, step};
 
 /// What of the text so far matters for the rest.
-#[derive(Clone, Copy)]
+#[derive(Debug, Clone, Copy, Default, PartialEq, Eq)]
 pub struct State {
     pub comment: bool,
     /// The first digit of a pair, until its second comes.
@@ -31,7 +31,7 @@ impl State {
             return Some((
                 State {
                     comment: byte != b'\n',
-                    first: self.first,
+                    ..self
                 },
                 None,
             ));
@@ -40,7 +40,7 @@ impl State {
             b'#' => Some((
                 State {
                     comment: true,
-                    first: self.first,
+                    ..self
                 },
                 None,
             )),
@@ -50,15 +50,15 @@ impl State {
                 match self.first {
                     None => Some((
                         State {
-                            comment: false,
                             first: Some(second),
+                            ..self
                         },
                         None,
                     )),
                     Some(first) => Some((
                         State {
-                            comment: false,
                             first: None,
+                            ..self
                         },
                         Some((first % 16) * 16 + second),
                     )),
