@@ -24,46 +24,22 @@ fn digit(byte: u8) -> Option<u8>
 
 impl State {
     /// The state after one more byte, and the byte that it completes; none where it is no part of such a text.
-    pub(crate) fn step(self, byte: u8) -> Option<(State, Option<u8>)>
+    pub(crate) fn step(mut self, byte: u8) -> Option<(State, Option<u8>)>
         ensures { result ≡ step self byte }
     {
-        if self.comment {
-            return Some((
-                State {
-                    comment: byte != b'\n',
-                    ..self
-                },
-                None,
-            ));
-        }
+        let mut complete = None;
         match byte {
-            b'#' => Some((
-                State {
-                    comment: true,
-                    ..self
-                },
-                None,
-            )),
-            b' ' | b'\t' | b'\n' | b'\r' => Some((self, None)),
+            _ if self.comment => self.comment = byte != b'\n',
+            b'#' => self.comment = true,
+            b' ' | b'\t' | b'\n' | b'\r' => {}
             _ => {
-                let second = digit(byte)?;
-                match self.first {
-                    None => Some((
-                        State {
-                            first: Some(second),
-                            ..self
-                        },
-                        None,
-                    )),
-                    Some(first) => Some((
-                        State {
-                            first: None,
-                            ..self
-                        },
-                        Some((first % 16) * 16 + second),
-                    )),
+                let digit = digit(byte)?;
+                match self.first.take() {
+                    None => self.first = Some(digit),
+                    Some(first) => complete = Some((first % 16) * 16 + digit),
                 }
             }
         }
+        Some((self, complete))
     }
 }
