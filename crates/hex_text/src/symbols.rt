@@ -14,12 +14,7 @@ pub struct State {
 fn digit(byte: u8) -> Option<u8>
     ensures { result ≡ digit byte }
 {
-    match byte {
-        b'0'..=b'9' => Some(byte - b'0'),
-        b'A'..=b'F' => Some(byte - b'A' + 10),
-        b'a'..=b'f' => Some(byte - b'a' + 10),
-        _ => None,
-    }
+    Some(char::from(byte).to_digit(16)? as u8)
 }
 
 impl State {
