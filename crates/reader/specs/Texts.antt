@@ -1,8 +1,9 @@
--- What is printed: a question in words, a fault, a type, an operation, a value.
+-- What is printed: a question in words, a head, a fault, a type, an operation, a value.
 use Rattle.std.specs.Prelude.{ℕ, zero, suc, List, ◌++◌, codes, decimal, if◌then◌else◌}
 use Rattle.reader.specs.declared.questions.Question.{Question}
 use Rattle.reader.specs.declared.questions.Question.TheVariants.{Length, Version, Inside, ThreadCount, QueueCount, FunctionCount, DepthLimit, ListLength, KnownType, KnownNode, KnownValue, Nesting, BranchLength, NothingLeft, ThreadSignature, NoAliasResult, Callee, Counts, Bound, Unspent, Fits, Once, Room, DepthRule, OwnersSpent}
 use Rattle.reader.specs.declared.faults.Fault.{Fault}
+use Rattle.reader.specs.declared.headers.Header.{Header}
 use Rattle.reader.specs.declared.types.Ty.{Ty}
 use Rattle.reader.specs.declared.types.Ty.TheVariants as t
 use Rattle.reader.specs.declared.types.UnknownType.{UnknownType}
@@ -42,6 +43,10 @@ wording Once = codes "does no earlier value of this list name the variable that 
 wording Room = codes "are at most 16 variables bound after this call?"
 wording DepthRule = codes "does this call keep the depth rule?"
 wording OwnersSpent = codes "is every owner on this path spent by this return?"
+
+-- the head of a program by its numbers
+abbrev pub header_text : Header → List ℕ
+header_text h = codes "threads " ++ (decimal h.threads ++ (codes ", own queues " ++ (decimal h.queues ++ (codes ", functions " ++ decimal h.functions))))
 
 -- a fault by its numbers
 abbrev pub fault_text : Fault → List ℕ
