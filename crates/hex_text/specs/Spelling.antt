@@ -1,5 +1,5 @@
 -- What decoding a text answers.
-use Rattle.std.specs.Prelude.{◌≡◌, ℕ, ◌+◌, true, false, ◌⊎◌, List, [], ◌∷◌, ◌++◌, Some, None, Ok, Err, vec_items, Option, Result, Vec, ◌==◌}
+use Rattle.std.specs.Prelude.{◌≡◌, ℕ, ◌+◌, false, ◌⊎◌, List, [], ◌∷◌, ◌++◌, Some, None, Ok, Err, vec_items, Option, Result, Vec, ◌==◌, codes, count_by}
 use Rattle.std.specs.declared.alloc.Global.{Global}
 use Rattle.hex_text.specs.declared.symbols.State.{State}
 use Rattle.hex_text.specs.declared.text.Misprint.{Misprint}
@@ -35,5 +35,10 @@ Decodes text (Err e) = (e ≡ NoMemory) ⊎ (spelled 0 start text ≡ Err e)
 
 -- how many lines end in a text
 abbrev pub lines : List ℕ → ℕ
-lines [] = 0
-lines (c ∷ cs) = elim (c == 10) [ true ↦ 1 + lines cs | false ↦ lines cs ]
+lines text = count_by (λ c. c == 10) text
+
+-- what is printed of a misprint
+abbrev pub misprint_text : Misprint → List ℕ
+misprint_text (Unknown place) = codes "neither a hexadecimal digit nor white space"
+misprint_text Odd = codes "the text ends after the first digit of a byte"
+misprint_text NoMemory = codes "no memory for its bytes"

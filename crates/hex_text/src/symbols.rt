@@ -3,7 +3,7 @@ ghost use Rattle.std.specs.Prelude.{◌≡◌};
 ghost use Rattle.hex_text.specs.Text.{digit, step};
 
 /// What of the text so far matters for the rest.
-#[derive(Clone, Copy)]
+#[derive(Debug, Clone, Copy, Default, PartialEq, Eq)]
 pub struct State {
     pub comment: bool,
     /// The first digit of a pair, until its second comes.
@@ -14,56 +14,27 @@ pub struct State {
 fn digit(byte: u8) -> Option<u8>
     ensures { result ≡ digit byte }
 {
-    match byte {
-        b'0'..=b'9' => Some(byte - b'0'),
-        b'A'..=b'F' => Some(byte - b'A' + 10),
-        b'a'..=b'f' => Some(byte - b'a' + 10),
-        _ => None,
-    }
+    Some(char::from(byte).to_digit(16)? as u8)
 }
 
 impl State {
     /// The state after one more byte, and the byte that it completes; none where it is no part of such a text.
-    pub(crate) fn step(self, byte: u8) -> Option<(State, Option<u8>)>
+    pub(crate) fn step(mut self, byte: u8) -> Option<(State, Option<u8>)>
         ensures { result ≡ step self byte }
     {
-        if self.comment {
-            return Some((
-                State {
-                    comment: byte != b'\n',
-                    first: self.first,
-                },
-                None,
-            ));
-        }
+        let mut complete = None;
         match byte {
-            b'#' => Some((
-                State {
-                    comment: true,
-                    first: self.first,
-                },
-                None,
-            )),
-            b' ' | b'\t' | b'\n' | b'\r' => Some((self, None)),
+            _ if self.comment => self.comment = byte != b'\n',
+            b'#' => self.comment = true,
+            b' ' | b'\t' | b'\n' | b'\r' => {}
             _ => {
-                let second = digit(byte)?;
-                match self.first {
-                    None => Some((
-                        State {
-                            comment: false,
-                            first: Some(second),
-                        },
-                        None,
-                    )),
-                    Some(first) => Some((
-                        State {
-                            comment: false,
-                            first: None,
-                        },
-                        Some((first % 16) * 16 + second),
-                    )),
+                let digit = digit(byte)?;
+                match self.first.take() {
+                    None => self.first = Some(digit),
+                    Some(first) => complete = Some((first % 16) * 16 + digit),
                 }
             }
         }
+        Some((self, complete))
     }
 }

@@ -12,3 +12,4 @@ pub mod WritesProgram
 pub mod Law
 pub mod Parts
 pub mod Cuts
+pub mod NoType

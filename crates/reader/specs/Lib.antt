@@ -6,5 +6,7 @@ pub mod Fields
 pub mod Nodes
 pub mod Programs
 pub mod Encoding
+pub mod Types
+pub mod Texts
 pub mod Spans
 pub mod Readers

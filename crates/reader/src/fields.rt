@@ -83,18 +83,15 @@ impl<'a> Window<'a> {
     }
 
     /// A type.
+    #[tactic(auto, using(crate::proofs::NoType::no_type))]
     pub fn ty(&self, place: usize) -> Result<(Ty, usize), Fault>
         ensures reads { result ≡ read_in self.now type_at place }
         ensures onward { Onward place (length self.now.bytes.now) result }
     {
         let (code, next) = self.byte(place)?;
-        match code {
-            1 => Ok((Ty::Int, next)),
-            2 => Ok((Ty::Bool, next)),
-            3 => Ok((Ty::Packet, next)),
-            4 => Ok((Ty::Alias, next)),
-            _ => Err(self.fault(Question::KnownType, place)),
-        }
+        let unknown = self.fault(Question::KnownType, place);
+        let ty = Ty::try_from(code).map_err(|_| unknown)?;
+        Ok((ty, next))
     }
 
     /// A byte from `low` to `high`, or the question that it answers no.

@@ -66,7 +66,7 @@ impl Window<'_> {
                 let (results, next) = self.count(next)?;
                 Ok((
                     Node::Call {
-                        operation: Operation::named(kind, index),
+                        operation: Operation::from((kind, index)),
                         arguments,
                         results,
                     },

@@ -1,13 +1,13 @@
 -- Small programs, byte by byte, and what is said of them.
 use Rattle.std.specs.Prelude.{◌≡◌, ℕ, zero, suc, ◌+◌, ◌/◌, ◌%◌, List, [], ◌∷◌, ◌++◌, length, take, Ok, Err, Result, slice_set}
 use Rattle.reader.specs.declared.faults.Fault.{Fault}
-use Rattle.reader.specs.Questions.{number}
+use Rattle.reader.specs.Questions.{number, layer}
 use Rattle.typing.specs.Layers.{verdict}
 
 -- a verdict by its numbers: the question, the layer, the function (255 outside records) and the place
 abbrev pub numbered : Result (Unit {0}) Fault → Result (Unit {0}) (ℕ × ℕ × ℕ × ℕ)
 numbered (Ok u) = Ok u
-numbered (Err e) = Err (number e.question, e.layer, e.function, e.place)
+numbered (Err e) = Err (number e.question, layer e.question, e.function, e.place)
 
 abbrev pub says : List ℕ → Result (Unit {0}) (ℕ × ℕ × ℕ × ℕ)
 says b = numbered (verdict b)

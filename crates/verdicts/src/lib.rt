@@ -6,18 +6,17 @@ ghost use Rattle.typing.specs.Layers.{verdict};
 ghost use Rattle.verdicts.specs.Lines.{row, written};
 
 use checker::layers::check;
+use reader::faults::Fault;
 use std::alloc::{AllocError, Global};
 
-/// Four numbers, with blanks between them.
-fn numbers(
-    heap: Global,
-    number: u8,
-    layer: u8,
-    function: u8,
-    place: usize,
-) -> Result<String, AllocError>
-    ensures { IfOk result (λ s. string_bytes s ≡ row number layer function place) }
+/// The numbers of a fault, with blanks between them.
+fn numbers(heap: Global, fault: Fault) -> Result<String, AllocError>
+    ensures { IfOk result (λ s. string_bytes s ≡ row fault) }
 {
+    let number = fault.question.number();
+    let layer = fault.layer();
+    let function = fault.function;
+    let place = fault.place;
     format!(in heap; "{number} {layer} {function} {place}")
 }
 
@@ -27,12 +26,6 @@ pub fn line(heap: Global, program: &[u8]) -> Result<String, AllocError>
 {
     match check(program) {
         Ok(()) => String::from_str(heap, "ok"),
-        Err(fault) => numbers(
-            heap,
-            fault.question.number(),
-            fault.layer,
-            fault.function,
-            fault.place,
-        ),
+        Err(fault) => numbers(heap, fault),
     }
 }
