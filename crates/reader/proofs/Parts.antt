@@ -1,5 +1,6 @@
 -- A body that reads, taken apart at its first node as the code sees it.
 use Rattle.std.proofs.Common.{◌≡◌, ℕ, ◌+◌, ◌-◌, eqb, leb, List, length, Ok, Err, sym, refl, ap, ◌∙◌, subst, inl, inr, arith}
+use Rattle.std.proofs.lemmas.Result.{IfOk-at_ok}
 use Rattle.reader.specs.declared.questions.Question.TheVariants as q
 use Rattle.reader.specs.declared.faults.Fault.{Fault}
 use Rattle.reader.specs.declared.operations.Operation.{Operation}
@@ -11,7 +12,7 @@ use Rattle.reader.specs.Operations.{operation}
 use Rattle.reader.specs.Syntax.{Body, return, branch, call}
 use Rattle.reader.specs.Fields.{Read, then, byte_at, half_at, value_at, values_at, count_at, list_at}
 use Rattle.reader.specs.Nodes.{Head, returns, branches, calls, if_at, call_at, node_at, followed, body_at, seen, sight}
-use Rattle.reader.proofs.Results.{then_ok, pass_ok, shun_ok, which, ok_same, made_ok}
+use Rattle.reader.proofs.Results.{then_ok, pass_ok, shun_ok, which, ok_same}
 use Rattle.reader.proofs.Lists.{values-long, byte_after, range_after}
 use Rattle.reader.proofs.Following.{body_is}
 
@@ -20,7 +21,7 @@ module _ (b : List ℕ) (e f : ℕ) where
   list_there : (p : ℕ) (x : List Operand × ℕ) → list_at b e f p ≡ Ok x → values_at b e f (length x.0) (p + 1) ≡ Ok x
   list_there p x h =
       let n = then_ok (count_at b e f p) _ x h in
-      let long = made_ok (values_at b e f n.0.0 n.0.1) (λ y. length y.0 ≡ n.0.0) x (values-long b e f n.0.0 n.0.1) n.2 in
+      let long = IfOk-at_ok (λ y. length y.0 ≡ n.0.0) n.2 (values-long b e f n.0.0 n.0.1) in
       let after = range_after b e f q.ListLength 0 8 p n.0 n.1 in
       (λ i. values_at b e f (long i) (sym after i)) ∙ n.2
 

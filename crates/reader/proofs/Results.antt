@@ -1,5 +1,5 @@
 -- Laws of results, and of one read after another.
-use Rattle.std.proofs.Common.{◌≡◌, ℕ, Bool, true, false, ◌⊎◌, IfOk, Ok, Err, Result, refl, ap, ◌∙◌, subst, inl, inr, arith}
+use Rattle.std.proofs.Common.{◌≡◌, ℕ, Bool, true, false, ◌⊎◌, IfOk, Ok, Err, Result, refl, ap, ◌∙◌, inl, inr, arith}
 use Rattle.reader.specs.declared.faults.Fault.{Fault}
 use Rattle.reader.specs.Fields.{Read, then, placed}
 
@@ -79,7 +79,3 @@ shun x {y = y} h k = ap (λ s. elim s [ true ↦ x | false ↦ y ]) h ∙ k
 pub placed_ok : {X : Type 0} (r : Read X) (z : ℕ) → placed r ≡ Ok z → (x : X × ℕ) × (r ≡ Ok x) × (x.1 ≡ z)
 placed_ok (Ok x) z h = (x, refl, cc)
 placed_ok (Err e) z h = absurd (let z : ◌≡◌ {A = ℕ} 0 1 = cc in omega arith)
-
-pub made_ok : {X : Type 0} (r : Result X Fault) (P : X → Type 0) (x : X) → IfOk r P → r ≡ Ok x → P x
-made_ok (Ok y) P x m h = let e : y ≡ x = cc in subst P e m
-made_ok (Err e) P x m h = absurd (let z : ◌≡◌ {A = ℕ} 0 1 = cc in omega arith)

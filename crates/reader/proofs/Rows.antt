@@ -1,12 +1,13 @@
 -- Types and records in a row: one more, and how many.
 use Rattle.std.proofs.Common.{◌≡◌, ℕ, zero, suc, ◌+◌, ◌-◌, ◌<◌, true, false, eqb, List, ◌∷◌, length, IfOk, Ok, sym, refl, ap, ◌∙◌, arith}
 use Rattle.std.proofs.lemmas.Bool.{eq-eqb}
+use Rattle.std.proofs.lemmas.Result.{IfOk-at_ok}
 use Rattle.reader.specs.declared.questions.Question.TheVariants as q
 use Rattle.reader.specs.declared.headers.Header.{Header}
 use Rattle.reader.specs.Fields.{denied, then, placed, count_at, type_at, skipped}
 use Rattle.reader.specs.Programs.{types_at, signature_at, record_at, records_at, ended, length_ok, header_at, reading, header, headed}
 use Rattle.reader.proofs.Skips.{row_skipped}
-use Rattle.reader.proofs.Results.{made_any, made_then, made_ok, placed-then, placed_ok, then-place, then_ext, then-placed, go, pass}
+use Rattle.reader.proofs.Results.{made_any, made_then, placed-then, placed_ok, then-place, then_ext, then-placed, go, pass}
 
 module _ (b : List ℕ) (e : ℕ) where
   types_skipped : (f n p : ℕ) → skipped (type_at b e f) n p ≡ placed (types_at b e f n p)
@@ -38,7 +39,7 @@ pub program-stands : (b : List ℕ) (h : Header) (z y : ℕ) → length_ok b ≡
 program-stands b h z y l k r last =
     let e = length b in
     let fs = placed_ok (records_at b e h.functions 0 z) y r in
-    let long = made_ok (records_at b e h.functions 0 z) (λ x. length x.0 ≡ h.functions) fs.0 (records-long b e h.functions 0 z) fs.1 in
+    let long = IfOk-at_ok (λ x. length x.0 ≡ h.functions) fs.1 (records-long b e h.functions 0 z) in
     sym (go (λ p. Ok (header p))
     (pass (denied q.Length 255 0) l
     (go (λ p. Ok p.0)

@@ -27,6 +27,7 @@ impl<'a> Window<'a> {
         }
     }
 
+    // The pair of what was read and the next place is the stated form of each reader, so `onward` is a clause and no type.
     /// One byte.
     pub fn byte(&self, place: usize) -> Result<(u8, usize), Fault>
         ensures reads { result ≡ read_in self.now byte_at place }

@@ -13,7 +13,8 @@ use Rattle.reader.specs.Syntax.{Function, Program}
 use Rattle.reader.specs.Fields.{byte_at, range_at}
 use Rattle.reader.specs.Nodes.{body_at}
 use Rattle.reader.specs.Programs.{records_at, length_ok, header_at, program_in, reading, header, headed}
-use Rattle.reader.proofs.Results.{then_ok, pass_ok, ok_same, made_ok}
+use Rattle.reader.proofs.Results.{then_ok, pass_ok, ok_same}
+use Rattle.std.proofs.lemmas.Result.{IfOk-at_ok}
 use Rattle.reader.proofs.Lists.{range_after}
 use Rattle.reader.proofs.Rows.{records-long}
 use Rattle.reader.proofs.WritesProgram.{ended_ok}
@@ -60,7 +61,7 @@ program-records b P h =
     let m = ok_same (record { threads = g.0.0.threads; queues = g.0.0.queues; functions = r.0.0 }, r.0.1) w.0 r.2 in
     let fs : r.0.0 ≡ P.functions = ap (λ (y : Program × ℕ). y.0.functions) m ∙ ap (λ (Q : Program). Q.functions) (ok_same w.0.0 P w.2) in
     let last : r.0.1 ≡ e = ap (λ (y : Program × ℕ). y.1) m ∙ u.1 in
-    let long = made_ok (records_at b e g.0.0.functions 0 g.0.1) (λ x. length x.0 ≡ g.0.0.functions) r.0 (records-long b e g.0.0.functions 0 g.0.1) r.1 in
+    let long = IfOk-at_ok (λ x. length x.0 ≡ g.0.0.functions) r.1 (records-long b e g.0.0.functions 0 g.0.1) in
     let k = header-ends b e g.0 g.1 in
     records_of g.0.0.functions g.0.1 r.0 r.1 fs last long k.0 k.1
   where
