@@ -80,9 +80,9 @@ after-body (Err e) y z h = absurd (never e y (sym h))
 
 -- a node taken apart, under the name that the code has for it
 pub taken : (w : Walk) (ifs p next : ℕ) (t : Body × ℕ) (n m : Node) → read_in w.window body_at ifs p ≡ Ok t → Ok (n, next) ≡ sight p (read_in w.window node_at ifs p) → n ≡ m
-    → Parts w.window.bytes.now w.window.end w.window.function ifs p t (m, next)
+    → Parts w.window.bytes.now (length w.window.bytes.now) w.window.function ifs p t (m, next)
 taken w ifs p next t n m h k q =
-    parts w.window.bytes.now w.window.end w.window.function ifs p t (m, next) h (ap (λ (x : Node). Ok (x, next)) (sym q) ∙ k)
+    parts w.window.bytes.now (length w.window.bytes.now) w.window.function ifs p t (m, next) h (ap (λ (x : Node). Ok (x, next)) (sym q) ∙ k)
 
 -- the body of a function, from its parameters
 pub inside_is : (P : Program) (i : ℕ) (F : Function) (H : Ctx) (z : ℕ) (a : Result ℕ Fault) → a ≡ answer_at P i F H (F.body, z) → H ≡ map has F.params

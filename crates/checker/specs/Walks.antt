@@ -1,5 +1,5 @@
 -- What the code's walks over a body keep and answer.
-use Rattle.std.specs.Prelude.{◌≡◌, ℕ, ◌+◌, ◌<◌, true, false, ◌&&◌, List, [], ◌++◌, map, length, Some, None, Ok, Err, Option, Result, ◌==◌, nat_le}
+use Rattle.std.specs.Prelude.{◌≡◌, ℕ, ◌+◌, ◌<◌, true, false, ◌&&◌, List, [], ◌++◌, map, length, take, Some, None, Ok, Err, Option, Result, ◌==◌, nat_le}
 use Rattle.std.proofs.Math.Option.{Option as Maybe, some}
 use Rattle.std.proofs.Math.ListN.{get_elem?}
 use Rattle.reader.specs.declared.faults.Fault.{Fault}
@@ -59,7 +59,7 @@ entering P i p d H f vs j e =
 -- a walk over the body of a function of a program
 pub record Walks (w : Walk) (P : Program) (F : Function) : Type 0 where
   pub stands : Stands w.table P
-  pub bytes : w.window.bytes.now ≡ w.table.program.now
+  pub bytes : w.window.bytes.now ≡ take (length w.window.bytes.now) w.table.program.now
   pub function : get_elem? P.functions w.window.function ≡ some F
   pub depth : w.depth ≡ F.depth
   pub results : items w.results ≡ F.results

@@ -82,8 +82,7 @@ pub(crate) fn inside(table: &Table, function: u8) -> Result<(), Fault>
     };
     let end = record.end.min(table.program.len());
     let window = Window {
-        bytes: table.program,
-        end,
+        bytes: &table.program[..end],
         function,
     };
     let walk = Walk {

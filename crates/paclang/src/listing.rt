@@ -36,15 +36,9 @@ fn list_program(rt: &HostRuntime, program: &[u8], header: Header) -> io::Result<
     println!(rt; "{:>5}  program: {header}", 0)?;
     let mut place = 6;
     for function in 0..header.functions {
-        let window = Window {
-            bytes: program,
-            end: program.len(),
-            function,
-        };
-        let Ok((length, start)) = window.half(place) else {
+        let Ok((window, start)) = Window::record(program, function, place) else {
             return Ok(());
         };
-        let end = start.saturating_add(usize::from(length)).min(program.len());
         print!(rt; "{place:>5}  function{function}")?;
         if function < header.threads {
             let thread = function.saturating_add(1);
@@ -53,15 +47,11 @@ fn list_program(rt: &HostRuntime, program: &[u8], header: Header) -> io::Result<
         list_record(
             rt,
             Reader {
-                window: Window {
-                    bytes: program,
-                    end,
-                    function,
-                },
+                window,
                 place: start,
             },
         )?;
-        place = end;
+        place = window.bytes.len();
     }
     Ok(())
 }
@@ -95,7 +85,7 @@ fn list_types(rt: &HostRuntime, reader: &mut Reader) -> io::Result<usize> {
 fn list_nodes(rt: &HostRuntime, mut reader: Reader, first: Level) -> io::Result<()> {
     let mut open = Vec::new(rt.alloc());
     let mut level = first;
-    for _node in 0..reader.window.end {
+    for _node in 0..reader.window.bytes.len() {
         let place = reader.place;
         let Ok(node) = reader.node(0) else {
             return Ok(());

@@ -8,15 +8,11 @@ use Rattle.reader.specs.declared.questions.Question.TheVariants as q
 use Rattle.reader.specs.Fields.{Read, denied, then, field_at, byte_at, half_at, value_at, values_at, range_at, count_at, list_at}
 use Rattle.reader.specs.Syntax.{Body, branch, call}
 use Rattle.reader.specs.Nodes.{Head, returns, branches, calls, if_at, call_at, node_at, followed, body_by, body_at}
-use Rattle.reader.proofs.Results.{made_then, then_same}
+use Rattle.reader.proofs.Results.{made_then, then_same, choose_same}
 
 -- what is read moves on
 abbrev Moves : {X : Type 0} (p : ℕ) → Read X → Type 0
 Moves p r = IfOk r (λ x. p < x.1)
-
-choose_same : {X : Type 0} (t : Bool) (a b c d : X) → a ≡ c → b ≡ d → ◌≡◌ {A = X} (elim t [ true ↦ a | false ↦ b ]) (elim t [ true ↦ c | false ↦ d ])
-choose_same true a b c d p q = p
-choose_same false a b c d p q = q
 
 choose_both : {X : Type 0} (P : X → Type 0) (t : Bool) (a b : X) → P a → P b → P (elim t [ true ↦ a | false ↦ b ])
 choose_both P true a b p q = p

@@ -1,4 +1,5 @@
 pub mod Results
+pub mod Skips
 pub mod Lists
 pub mod Following
 pub mod Rows
@@ -10,4 +11,5 @@ pub mod WritesRead
 pub mod WritesProgram
 pub mod Law
 pub mod Parts
+pub mod Cuts
 pub mod NoType

@@ -23,6 +23,15 @@ pub then_ext : {X Y : Type 0} (r : Result X Fault) (g h : X → Result Y Fault) 
 then_ext (Ok x) g h k = k x
 then_ext (Err e) g h k = refl
 
+-- reads that agree, with continuations that agree
+pub then_both : {X Y : Type 0} {r s : Result X Fault} (g h : X → Result Y Fault) → r ≡ s → ((x : X) → g x ≡ h x) → then r g ≡ then s h
+then_both {r = r} g h p k = then_ext r g h k ∙ ap (λ x. then x h) p
+
+-- a choice between what agrees
+pub choose_same : {X : Type 0} (t : Bool) (a b c d : X) → a ≡ c → b ≡ d → ◌≡◌ {A = X} (elim t [ true ↦ a | false ↦ b ]) (elim t [ true ↦ c | false ↦ d ])
+choose_same true a b c d p q = p
+choose_same false a b c d p q = q
+
 pub placed-then : {X Y : Type 0} (r : Result X Fault) (g : X → Read Y) → placed (then r g) ≡ then r (λ x. placed (g x))
 placed-then (Ok x) g = refl
 placed-then (Err e) g = refl

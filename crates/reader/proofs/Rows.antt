@@ -1,19 +1,19 @@
 -- Types and records in a row: one more, and how many.
-use Rattle.std.proofs.Common.{◌≡◌, ℕ, zero, suc, ◌+◌, ◌-◌, ◌<◌, true, false, eqb, List, length, IfOk, Ok, sym, refl, ap, ◌∙◌, arith}
+use Rattle.std.proofs.Common.{◌≡◌, ℕ, zero, suc, ◌+◌, ◌-◌, ◌<◌, true, false, eqb, List, ◌∷◌, length, IfOk, Ok, sym, refl, ap, ◌∙◌, arith}
 use Rattle.std.proofs.lemmas.Bool.{eq-eqb}
 use Rattle.reader.specs.declared.questions.Question.TheVariants as q
 use Rattle.reader.specs.declared.headers.Header.{Header}
-use Rattle.reader.specs.Fields.{denied, then, placed, type_at}
-use Rattle.reader.specs.Programs.{types_at, record_at, records_at, ended, length_ok, header_at, reading, header, headed}
+use Rattle.reader.specs.Fields.{denied, then, placed, count_at, type_at, skipped}
+use Rattle.reader.specs.Programs.{types_at, signature_at, record_at, records_at, ended, length_ok, header_at, reading, header, headed}
+use Rattle.reader.proofs.Skips.{row_skipped}
 use Rattle.reader.proofs.Results.{made_any, made_then, made_ok, placed-then, placed_ok, then-place, then_ext, then-placed, go, pass}
 
 module _ (b : List ℕ) (e : ℕ) where
-  pub types_more : (f n i p : ℕ) → i < n → placed (types_at b e f (n - i) p) ≡ then (type_at b e f p) (λ t. placed (types_at b e f (n - (i + 1)) t.1))
-  types_more f n i p h =
-      let s : n - i ≡ suc (n - (i + 1)) = omega arith in
-      ap (λ k. placed (types_at b e f k p)) s
-      ∙ placed-then (type_at b e f p) _
-      ∙ then_ext (type_at b e f p) _ _ (λ t. placed-then (types_at b e f (n - (i + 1)) t.1) _ ∙ then-place (types_at b e f (n - (i + 1)) t.1))
+  types_skipped : (f n p : ℕ) → skipped (type_at b e f) n p ≡ placed (types_at b e f n p)
+  types_skipped f = row_skipped (type_at b e f) (types_at b e f) (λ p t ts. t ∷ ts) (λ p. refl) (λ n p. refl)
+
+  pub signature_is : (f p n z : ℕ) → Ok (n, z) ≡ count_at b e f p → placed (signature_at b e f p) ≡ skipped (type_at b e f) n z
+  signature_is f p n z h = ap placed (go (λ x. types_at b e f x.0 x.1) (sym h) refl) ∙ sym (types_skipped f n z)
 
   pub records_more : (n i p : ℕ) → i < n → placed (records_at b e (n - i) i p) ≡ then (placed (record_at b e i p)) (λ z. placed (records_at b e (n - (i + 1)) (i + 1) z))
   records_more n i p h =

@@ -1,7 +1,10 @@
 -- Bytes that stand in other bytes.
-use Rattle.std.proofs.Common.{◌≡◌, ℕ, zero, suc, ◌+◌, ◌<◌, List, [], ◌∷◌, ◌++◌, length, get_or, sym, ap, ◌∙◌, subst, arith}
+use Rattle.std.proofs.Common.{◌≡◌, ℕ, zero, suc, ◌+◌, ◌<◌, List, [], ◌∷◌, ◌++◌, length, get_or, take, drop, refl, sym, ap, ◌∙◌, subst, arith}
 use Rattle.reader.specs.Spans.{Span}
-use Rattle.std.proofs.lemmas.List.{ext_get_or}
+use Rattle.std.proofs.lemmas.List.{ext_get_or, get_or-take, get_or-drop}
+use Rattle.std.specs.Int.{w32, from_be_bytes}
+use Rattle.std.specs.Prelude.{slice_index}
+use Rattle.reader.specs.Fields.{word}
 
 module _ (b : List ℕ) where
   pub span-end : (p z : ℕ) (xs : List ℕ) → Span b p z xs → z ≡ p + length xs
@@ -37,3 +40,10 @@ module _ (b : List ℕ) where
 
   pub span_same : Span b 0 (length b) b
   span_same = span_of 0 (length b) b (omega arith) (λ k l. ap (λ i. get_or b i 0) (omega arith))
+
+-- the number that four bytes write down
+pub word_of : (b : List ℕ) (p : ℕ) → from_be_bytes w32 (take 4 (drop p b)) ≡ word b p
+word_of b p = omega (arith, at 0 p (omega arith) (omega arith), at 1 _ (omega arith) refl, at 2 _ (omega arith) refl, at 3 _ (omega arith) refl)
+  where
+    at : (i q : ℕ) → i < 4 → p + i ≡ q → slice_index (take 4 (drop p b)) i ≡ slice_index b q
+    at i q l e = get_or-take 4 (drop p b) i 0 l ∙ get_or-drop p b i 0 ∙ ap (slice_index b) e

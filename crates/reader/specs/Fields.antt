@@ -1,6 +1,7 @@
 -- Fields and values: what stands at a place, or the first fault.
 -- b are the bytes, e is where the record or program that encloses the field ends, f the function that a fault carries, p the place.
-use Rattle.std.specs.Prelude.{ℕ, zero, suc, ◌+◌, ◌*◌, ◌<◌, ◌≤◌, true, false, ◌&&◌, List, [], ◌∷◌, length, IfOk, Ok, Err, Result, ◌==◌, nat_le, slice_index}
+use Rattle.std.specs.Borrow.{Bor}
+use Rattle.std.specs.Prelude.{◌≡◌, ℕ, zero, suc, ◌+◌, ◌*◌, ◌<◌, ◌≤◌, true, false, ◌&&◌, List, [], ◌∷◌, length, take, drop, IfOk, Ok, Err, Result, ◌==◌, nat_le, slice_index}
 use Rattle.reader.specs.declared.questions.Question.{Question}
 use Rattle.reader.specs.declared.questions.Question.TheVariants as q
 use Rattle.reader.specs.declared.faults.Fault.{Fault}
@@ -34,8 +35,12 @@ abbrev pub word : List ℕ → ℕ → ℕ
 word b p = half b p * 65536 + (slice_index b (p + 2) * 256 + slice_index b (p + 3))
 
 -- a field of w bytes whose value is n
-abbrev pub field_at : (w n e f p : ℕ) → Read ℕ
+abbrev pub field_at : {X : Type 0} → (w : ℕ) → X → (e f p : ℕ) → Read X
 field_at w n e f p = elim (nat_le (p + w) e) [ true ↦ Ok (n, p + w) | false ↦ denied q.Inside f p ]
+
+-- w bytes as they stand
+abbrev pub bytes_at : ℕ → List ℕ → (e f p : ℕ) → Read (List ℕ)
+bytes_at w b e f p = field_at w (take w (drop p b)) e f p
 
 abbrev pub byte_at : List ℕ → (e f p : ℕ) → Read ℕ
 byte_at b e f p = field_at 1 (slice_index b p) e f p
@@ -102,9 +107,18 @@ values_at b e f (suc n) p =
 abbrev pub list_at : List ℕ → (e f p : ℕ) → Read (List Operand)
 list_at b e f p = then (count_at b e f p) λ n. values_at b e f n.0 n.1
 
+-- the place after n items in a row, each as `one` reads it, or the first fault
+abbrev pub skipped : {X : Type 0} → (ℕ → Read X) → (n p : ℕ) → Result ℕ Fault
+skipped one zero p = Ok p
+skipped one (suc n) p = then (one p) λ x. skipped one n x.1
+
+-- what code may read at a place of a window is what `one` says
+abbrev pub ReadsAs : {X : Type 0} → (Bor Window → ℕ → Read X → Type 0) → Window → (ℕ → Read X) → Type 0
+ReadsAs {X} reads w one = (v : Bor Window) (p : ℕ) (x : Read X) → v.now ≡ w → reads v p x → x ≡ one p
+
 -- what a definition over bytes, an end and a function says in a window
 abbrev pub read_in : {X : Type 0} → Window → (List ℕ → ℕ → ℕ → X) → X
-read_in w g = g w.bytes.now w.end w.function
+read_in w g = g w.bytes.now (length w.bytes.now) w.function
 
 -- the place after what is read
 abbrev pub placed : {X : Type 0} → Read X → Result ℕ Fault

@@ -1,5 +1,5 @@
 //! Bodies: nodes with all that follows them.
-ghost use Rattle.std.specs.Prelude.{◌≡◌, ◌<◌, ◌≤◌, IfOk};
+ghost use Rattle.std.specs.Prelude.{◌≡◌, ◌<◌, ◌≤◌, IfOk, length};
 ghost use Rattle.reader.specs.Fields.{read_in, placed};
 ghost use Rattle.reader.specs.Nodes.{body_at};
 
@@ -10,9 +10,10 @@ use crate::windows::Window;
 
 impl Window<'_> {
     /// The place after a body that stands under `ifs` ifs.
+    #[tactic(auto, using(crate::proofs::Following::body_is))]
     pub(crate) fn body(&self, ifs: u8, place: usize) -> Result<usize, Fault>
         ensures reads { result ≡ placed (read_in self.now body_at ifs place) }
-        ensures onward { IfOk result (λ z. (place < z) × (z ≤ self.now.end)) }
+        ensures onward { IfOk result (λ z. (place < z) × (z ≤ length self.now.bytes.now)) }
     {
         let (node, next) = self.node(ifs, place)?;
         match node {

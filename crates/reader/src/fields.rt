@@ -1,6 +1,6 @@
 //! Fields and values: from a place to what stands there and the place after it.
-ghost use Rattle.std.specs.Prelude.{◌≡◌, ◌<◌, ◌≤◌, IfOk};
-ghost use Rattle.reader.specs.Fields.{read_in, byte_at, half_at, word_at, value_at, type_at, range_at, count_at, values_at, list_at, Onward, placed, listed};
+ghost use Rattle.std.specs.Prelude.{◌≡◌, ℕ, length};
+ghost use Rattle.reader.specs.Fields.{Read, read_in, bytes_at, byte_at, half_at, word_at, value_at, type_at, range_at, count_at, list_at, Onward, listed, ReadsAs, skipped};
 ghost use Rattle.reader.specs.Faults.{fault};
 
 use crate::faults::Fault;
@@ -9,55 +9,56 @@ use crate::types::Ty;
 use crate::values::{Value, Values};
 use crate::windows::Window;
 
-impl Window<'_> {
+impl<'a> Window<'a> {
     /// The fault of a question at a place of this window.
-    pub(crate) fn fault(&self, question: Question, place: usize) -> Fault
+    pub fn fault(&self, question: Question, place: usize) -> Fault
         ensures { result ≡ fault question self.now.function place }
     {
         Fault::new(question, self.function, place)
     }
 
+    /// The `N` bytes at a place.
+    fn field<const N: usize>(&self, place: usize) -> Result<([u8; N], usize), Fault>
+        ensures { result ≡ read_in self.now (bytes_at N) place }
+    {
+        match self.bytes.get(place..).and_then(<[u8]>::first_chunk::<N>) {
+            Some(bytes) => Ok((*bytes, place + N)),
+            None => Err(self.fault(Question::Inside, place)),
+        }
+    }
+
     /// One byte.
     pub fn byte(&self, place: usize) -> Result<(u8, usize), Fault>
         ensures reads { result ≡ read_in self.now byte_at place }
-        ensures onward { Onward place self.now.end result }
+        ensures onward { Onward place (length self.now.bytes.now) result }
     {
-        if place >= self.end {
-            return Err(self.fault(Question::Inside, place));
-        }
-        Ok((self.bytes[place], place + 1))
+        let ([byte], next) = self.field::<1>(place)?;
+        Ok((byte, next))
     }
 
     /// Two bytes, the larger part first.
     pub fn half(&self, place: usize) -> Result<(u16, usize), Fault>
         ensures reads { result ≡ read_in self.now half_at place }
-        ensures onward { Onward place self.now.end result }
+        ensures onward { Onward place (length self.now.bytes.now) result }
     {
-        if self.end < 2 || place > self.end - 2 {
-            return Err(self.fault(Question::Inside, place));
-        }
-        let high = u16::from(self.bytes[place]);
-        let low = u16::from(self.bytes[place + 1]);
-        Ok((high * 256 + low, place + 2))
+        let (bytes, next) = self.field::<2>(place)?;
+        Ok((u16::from_be_bytes(bytes), next))
     }
 
     /// Four bytes, the larger part first.
+    #[tactic(auto, using(crate::proofs::Spans::word_of))]
     pub fn word(&self, place: usize) -> Result<(u32, usize), Fault>
         ensures reads { result ≡ read_in self.now word_at place }
-        ensures onward { Onward place self.now.end result }
+        ensures onward { Onward place (length self.now.bytes.now) result }
     {
-        if self.end < 4 || place > self.end - 4 {
-            return Err(self.fault(Question::Inside, place));
-        }
-        let high = u32::from(self.bytes[place]) * 256 + u32::from(self.bytes[place + 1]);
-        let low = u32::from(self.bytes[place + 2]) * 256 + u32::from(self.bytes[place + 3]);
-        Ok((high * 65536 + low, place + 4))
+        let (bytes, next) = self.field::<4>(place)?;
+        Ok((u32::from_be_bytes(bytes), next))
     }
 
     /// A value, and the place after it.
     pub fn value(&self, place: usize) -> Result<(Value, usize), Fault>
         ensures reads { result ≡ read_in self.now value_at place }
-        ensures onward { Onward place self.now.end result }
+        ensures onward { Onward place (length self.now.bytes.now) result }
     {
         let (tag, next) = self.byte(place)?;
         match tag {
@@ -85,7 +86,7 @@ impl Window<'_> {
     #[tactic(auto, using(crate::proofs::NoType::no_type))]
     pub fn ty(&self, place: usize) -> Result<(Ty, usize), Fault>
         ensures reads { result ≡ read_in self.now type_at place }
-        ensures onward { Onward place self.now.end result }
+        ensures onward { Onward place (length self.now.bytes.now) result }
     {
         let (code, next) = self.byte(place)?;
         let unknown = self.fault(Question::KnownType, place);
@@ -102,10 +103,10 @@ impl Window<'_> {
         place: usize,
     ) -> Result<(u8, usize), Fault>
         ensures reads { result ≡ read_in self.now (range_at question low high) place }
-        ensures onward { Onward place self.now.end result }
+        ensures onward { Onward place (length self.now.bytes.now) result }
     {
         let (value, next) = self.byte(place)?;
-        if value < low || value > high {
+        if !(low..=high).contains(&value) {
             return Err(self.fault(question, place));
         }
         Ok((value, next))
@@ -114,20 +115,25 @@ impl Window<'_> {
     /// A count of at most 8.
     pub fn count(&self, place: usize) -> Result<(u8, usize), Fault>
         ensures reads { result ≡ read_in self.now count_at place }
-        ensures onward { Onward place self.now.end result }
+        ensures onward { Onward place (length self.now.bytes.now) result }
     {
         self.range(Question::ListLength, 0, 8, place)
     }
 
-    /// The place after `count` values.
-    fn values(&self, count: u8, place: usize) -> Result<usize, Fault>
-        ensures reads { result ≡ placed (read_in self.now values_at count place) }
-        ensures later { IfOk result (λ z. (place ≤ z) × (place ≤ self.now.end → z ≤ self.now.end)) }
+    /// The place after `count` items, each read by `item`.
+    #[tactic(auto, using(crate::proofs::Skips::skipped_more))]
+    pub(crate) fn skip<T: Drop, F: Fn(&Window<'a>, usize) -> Result<(T, usize), Fault>>(
+        &self,
+        count: u8,
+        place: usize,
+        item: F,
+    ) -> Result<usize, Fault>
+        requires { F.IsAlwaysCallable item }
+        ensures { (one : ℕ → Read T) → ReadsAs (F.post item) self.now one → result ≡ skipped one count place }
     {
         let mut next = place;
         for _i in 0..count {
-            let (_, after) = self.value(next)?;
-            next = after;
+            (_, next) = item(self, next)?;
         }
         Ok(next)
     }
@@ -135,10 +141,10 @@ impl Window<'_> {
     /// A count and that many values: where they stand.
     pub(crate) fn list(&self, place: usize) -> Result<(Values, usize), Fault>
         ensures reads { result ≡ listed place (read_in self.now list_at place) }
-        ensures onward { Onward place self.now.end result }
+        ensures onward { Onward place (length self.now.bytes.now) result }
     {
         let (count, first) = self.count(place)?;
-        let next = self.values(count, first)?;
+        let next = self.skip(count, first, Self::value)?;
         Ok((
             Values {
                 count,

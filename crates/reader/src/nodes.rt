@@ -1,7 +1,7 @@
 //! Nodes: from the place of a tag to the node and the place of what follows it.
-ghost use Rattle.std.specs.Prelude.{◌≡◌, ◌+◌, IfOk};
+ghost use Rattle.std.specs.Prelude.{◌≡◌, IfOk, length};
 ghost use Rattle.reader.specs.Fields.{read_in, Onward};
-ghost use Rattle.reader.specs.Nodes.{call_at, node_at, sight, Nested};
+ghost use Rattle.reader.specs.Nodes.{node_at, sight, Nested};
 
 use crate::faults::Fault;
 use crate::operations::Operation;
@@ -35,7 +35,7 @@ impl Window<'_> {
     /// The node at a place under `ifs` ifs.
     pub fn node(&self, ifs: u8, place: usize) -> Result<(Node, usize), Fault>
         ensures reads { result ≡ sight place (read_in self.now node_at ifs place) }
-        ensures onward { Onward place self.now.end result }
+        ensures onward { Onward place (length self.now.bytes.now) result }
         ensures nested { IfOk result (λ x. Nested ifs x.0) }
     {
         let (tag, next) = self.byte(place)?;

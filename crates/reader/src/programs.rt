@@ -1,7 +1,7 @@
 //! Records, and whole programs.
-ghost use Rattle.std.specs.Prelude.{◌≡◌, ◌<◌, ◌≤◌, true, length};
-ghost use Rattle.reader.specs.Fields.{read_in, Onward, placed};
-ghost use Rattle.reader.specs.Programs.{types_at, signature_at, record_in, record_at, records_at, length_ok, header_at, reading, headed};
+ghost use Rattle.std.specs.Prelude.{◌≡◌, length};
+ghost use Rattle.reader.specs.Fields.{read_in, placed};
+ghost use Rattle.reader.specs.Programs.{signature_at, record_in, record_at, records_at, length_ok, header_at, reading, headed};
 ghost use Rattle.reader.specs.Encoding.{ReadsBack, WrittenReads};
 
 use crate::faults::Fault;
@@ -13,24 +13,12 @@ use crate::windows::Window;
 const OUTSIDE: u8 = 255;
 
 impl Window<'_> {
-    /// The place after `count` types.
-    fn types(&self, count: u8, place: usize) -> Result<usize, Fault>
-        ensures { result ≡ placed (read_in self.now types_at count place) }
-    {
-        let mut next = place;
-        for _i in 0..count {
-            let (_, after) = self.ty(next)?;
-            next = after;
-        }
-        Ok(next)
-    }
-
     /// The place after a count and that many types.
     fn signature(&self, place: usize) -> Result<usize, Fault>
         ensures { result ≡ placed (read_in self.now signature_at place) }
     {
         let (count, next) = self.count(place)?;
-        self.types(count, next)
+        self.skip(count, next, Self::ty)
     }
 
     /// The place after what a record holds, which is the end of the window.
@@ -41,7 +29,7 @@ impl Window<'_> {
         let next = self.signature(next)?;
         let next = self.signature(next)?;
         let next = self.body(0, next)?;
-        if next != self.end {
+        if next != self.bytes.len() {
             return Err(self.fault(Question::NothingLeft, next));
         }
         Ok(next)
@@ -70,31 +58,18 @@ impl Window<'_> {
 fn record(program: &[u8], function: u8, place: usize) -> Result<usize, Fault>
     ensures { result ≡ placed (record_at program.now (length program.now) function place) }
 {
-    let outer = Window {
-        bytes: program,
-        end: program.len(),
-        function,
-    };
-    let (length, next) = outer.half(place)?;
-    let length = usize::from(length);
-    if length > program.len() - next {
-        return Err(outer.fault(Question::Inside, place));
-    }
-    let window = Window {
-        bytes: program,
-        end: next + length,
-        function,
-    };
-    window.contents(place, next)
+    let (window, first) = Window::record(program, function, place)?;
+    window.contents(place, first)
 }
 
 /// The place after `count` records.
+#[tactic(auto, using(crate::proofs::Rows::records_more))]
 fn records(program: &[u8], count: u8, place: usize) -> Result<usize, Fault>
     ensures { result ≡ placed (records_at program.now (length program.now) count 0 place) }
 {
     let mut next = place;
-    for i in 0..count {
-        next = record(program, i, next)?;
+    for function in 0..count {
+        next = record(program, function, next)?;
     }
     Ok(next)
 }
@@ -104,9 +79,8 @@ fn has_its_length(program: &[u8]) -> bool
     ensures { result ≡ length_ok program.now }
 {
     let length = program.len();
-    2 <= length
-        && length <= 4096
-        && usize::from(program[0]) * 256 + usize::from(program[1]) + 2 == length
+    (2..=4096).contains(&length)
+        && usize::from(u16::from_be_bytes([program[0], program[1]])) + 2 == length
 }
 
 /// Layer 1 of a program: its counts, or the first fault.
@@ -118,7 +92,6 @@ fn whole(program: &[u8]) -> Result<Header, Fault>
     }
     let window = Window {
         bytes: program,
-        end: program.len(),
         function: OUTSIDE,
     };
     let (header, next) = window.header(2)?;

@@ -2,7 +2,7 @@
 ghost use Rattle.std.specs.Prelude.{◌≡◌};
 ghost use Rattle.reader.specs.Fields.{read_in, byte_at, half_at, word_at, value_at};
 ghost use Rattle.reader.specs.Nodes.{node_at, sight};
-ghost use Rattle.reader.specs.Readers.{answer, moved};
+ghost use Rattle.reader.specs.Readers.{answer, moved, Steps};
 
 use crate::faults::Fault;
 use crate::nodes::Node;
@@ -10,21 +10,32 @@ use crate::values::Value;
 use crate::windows::Window;
 
 /// A place in the caller's bytes. Each call reads what stands there and moves behind it, or reports a fault and stays.
-#[derive(Clone, Copy)]
+#[derive(Clone, Copy, Debug, PartialEq, Eq)]
 pub struct Reader<'a> {
     pub window: Window<'a>,
     pub place: usize,
 }
 
-impl Reader<'_> {
+impl<'a> Reader<'a> {
+    /// Reads what stands at the place and moves behind it, or stays at a fault.
+    fn step<T, F: FnOnce(&Window<'a>, usize) -> Result<(T, usize), Fault>>(
+        &mut self,
+        read: F,
+    ) -> Result<T, Fault>
+        requires { F.IsAlwaysCallable read }
+        ensures { Steps (F.post read) self.old result self.new }
+    {
+        let (value, next) = read(&self.window, self.place)?;
+        self.place = next;
+        Ok(value)
+    }
+
     /// One byte.
     pub fn byte(&mut self) -> Result<u8, Fault>
         ensures answer { result ≡ answer (read_in self.old.window byte_at self.old.place) }
         ensures after { self.new ≡ moved self.old (read_in self.old.window byte_at self.old.place) }
     {
-        let (byte, next) = self.window.byte(self.place)?;
-        self.place = next;
-        Ok(byte)
+        self.step(Window::byte)
     }
 
     /// Two bytes, the larger part first.
@@ -32,9 +43,7 @@ impl Reader<'_> {
         ensures answer { result ≡ answer (read_in self.old.window half_at self.old.place) }
         ensures after { self.new ≡ moved self.old (read_in self.old.window half_at self.old.place) }
     {
-        let (half, next) = self.window.half(self.place)?;
-        self.place = next;
-        Ok(half)
+        self.step(Window::half)
     }
 
     /// Four bytes, the larger part first.
@@ -42,9 +51,7 @@ impl Reader<'_> {
         ensures answer { result ≡ answer (read_in self.old.window word_at self.old.place) }
         ensures after { self.new ≡ moved self.old (read_in self.old.window word_at self.old.place) }
     {
-        let (word, next) = self.window.word(self.place)?;
-        self.place = next;
-        Ok(word)
+        self.step(Window::word)
     }
 
     /// A value.
@@ -52,9 +59,7 @@ impl Reader<'_> {
         ensures answer { result ≡ answer (read_in self.old.window value_at self.old.place) }
         ensures after { self.new ≡ moved self.old (read_in self.old.window value_at self.old.place) }
     {
-        let (value, next) = self.window.value(self.place)?;
-        self.place = next;
-        Ok(value)
+        self.step(Window::value)
     }
 
     /// A node under `ifs` ifs, without what follows it.
@@ -62,8 +67,6 @@ impl Reader<'_> {
         ensures answer { result ≡ answer (sight self.old.place (read_in self.old.window node_at ifs self.old.place)) }
         ensures after { self.new ≡ moved self.old (read_in self.old.window node_at ifs self.old.place) }
     {
-        let (node, next) = self.window.node(ifs, self.place)?;
-        self.place = next;
-        Ok(node)
+        self.step(|window, place| window.node(ifs, place))
     }
 }

@@ -6,7 +6,6 @@ ghost use Rattle.records.specs.Glances.{rowed, glanced, glance_in, glance_at};
 
 use super::Record;
 use reader::faults::Fault;
-use reader::questions::Question;
 use reader::types::Ty;
 use reader::windows::Window;
 use rows::row::Row;
@@ -46,7 +45,7 @@ fn contents(window: &Window, place: usize) -> Result<Record, Fault>
         params,
         results,
         body: next,
-        end: window.end,
+        end: window.bytes.len(),
     })
 }
 
@@ -54,20 +53,6 @@ fn contents(window: &Window, place: usize) -> Result<Record, Fault>
 pub(crate) fn glance_at(program: &[u8], function: u8, place: usize) -> Result<Record, Fault>
     ensures { glanced result ≡ glance_at program.now (length program.now) function place }
 {
-    let outer = Window {
-        bytes: program,
-        end: program.len(),
-        function,
-    };
-    let (length, next) = outer.half(place)?;
-    let length = usize::from(length);
-    if length > program.len() - next {
-        return Err(Fault::new(Question::Inside, function, place));
-    }
-    let window = Window {
-        bytes: program,
-        end: next + length,
-        function,
-    };
-    contents(&window, next)
+    let (window, first) = Window::record(program, function, place)?;
+    contents(&window, first)
 }

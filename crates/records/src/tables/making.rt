@@ -12,16 +12,9 @@ use reader::windows::Window;
 fn place_after(program: &[u8], place: usize) -> usize
     ensures { result ≡ after program.now (length program.now) place }
 {
-    let window = Window {
-        bytes: program,
-        end: program.len(),
-        function: 255,
-    };
-    match window.half(place) {
-        Ok((length, next)) if usize::from(length) <= program.len() - next => {
-            next + usize::from(length)
-        }
-        _ => program.len(),
+    match Window::record(program, 255, place) {
+        Ok((window, _)) => window.bytes.len(),
+        Err(_) => program.len(),
     }
 }
 

@@ -1,4 +1,4 @@
-use Rattle.std.proofs.Common.{◌≡◌, ℕ, ◌+◌, Ok, Err, Result, ap, ◌∙◌, rules}
+use Rattle.std.proofs.Common.{◌≡◌, ℕ, ◌+◌, Ok, Err, Result, ap, ◌∙◌, rules, length}
 use Rattle.reader.specs.declared.faults.Fault.{Fault}
 use Rattle.reader.specs.declared.nodes.Node.TheVariants as node
 use Rattle.reader.specs.Fields.{read_in, then}
@@ -12,7 +12,7 @@ pub returns-in_err-node : goal.returns-in_err-node
 returns-in_err-node t c = record {
   answer = λ P F u s h.
       let w = c.args.self.now.window in
-      absurd (node-reads w.bytes.now w.end w.function c.args.ifs c.args.place u c.in_err-node.field-0.0 h c.in_err-node.ensures.reads);
+      absurd (node-reads w.bytes.now (length w.bytes.now) w.function c.args.ifs c.args.place u c.in_err-node.field-0.0 h c.in_err-node.ensures.reads);
   onward = search rules;
 }
 

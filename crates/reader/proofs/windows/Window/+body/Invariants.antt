@@ -1,5 +1,5 @@
-use Rattle.std.proofs.Common.{◌-◌}
+use Rattle.std.proofs.Common.{◌-◌, length}
 use Rattle.reader.proofs.windows.Window.+body.Given as goal
 
 abbrev pub decreases-body : goal.decreases-body
-decreases-body l = l.self.now.end - l.place
+decreases-body l = length l.self.now.bytes.now - l.place
