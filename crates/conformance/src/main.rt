@@ -7,15 +7,13 @@ use std::io::{BufRead, BufReader};
 
 fn main(rt: HostRuntime) -> anyhow::Result<()> {
     let heap = rt.alloc();
-    let mut answers = Vec::new(heap);
+    let mut answers = String::new(heap);
     for line in BufReader::new(heap, rt.stdin())?.lines(heap) {
         let Ok(program) = hex_text::text::decode(heap, line?.as_bytes()) else {
             return Err(anyhow!("a case is no hexadecimal text"));
         };
-        answers.push(verdicts::line(heap, &program)?)?;
+        writeln!(answers, "{}", verdicts::line(heap, &program)?)?;
     }
-    for answer in answers.iter() {
-        rt.println(answer.as_str())?;
-    }
+    rt.print(answers)?;
     Ok(())
 }

@@ -3,6 +3,7 @@ ghost use Rattle.std.specs.Prelude.{◌≡◌};
 ghost use Rattle.hex_text.specs.Text.{digit, step};
 
 /// What of the text so far matters for the rest.
+// Two fields and no enum: a comment may stand between the two digits of a pair.
 #[derive(Debug, Clone, Copy, Default, PartialEq, Eq)]
 pub struct State {
     pub comment: bool,

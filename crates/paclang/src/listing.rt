@@ -1,13 +1,17 @@
 //! `paclang disassemble`: the tree of a program, each node and record with its byte place.
+ghost use Rattle.std.specs.Iterator.{IsFinite};
+
+use crate::denial::deny;
 use crate::loading::load;
-use crate::naming::{print_operation, print_value, type_name};
-use crate::wording::print_denial;
 use reader::headers::Header;
 use reader::nodes::Node;
 use reader::readers::Reader;
 use reader::values::Values;
 use reader::windows::Window;
+use std::fmt::Display;
 use std::io;
+use std::iter::from_fn;
+use std::process::ExitCode;
 
 /// How deep a node stands under ifs, and how many variables are bound before it.
 #[derive(Clone, Copy)]
@@ -16,38 +20,27 @@ struct Level {
     bound: usize,
 }
 
-/// Lists the program in a file; false where it does not read.
-pub(crate) fn list_file(rt: &HostRuntime, path: &str) -> io::Result<bool> {
+/// Lists the program in a file: success where it reads.
+pub(crate) fn list_file(rt: &HostRuntime, path: &str) -> io::Result<ExitCode> {
     let Some(program) = load(rt, path)? else {
-        return Ok(false);
+        return Ok(ExitCode::FAILURE);
     };
     match reader::programs::read(&program) {
-        Ok(header) => {
-            list_program(rt, &program, header)?;
-            Ok(true)
-        }
-        Err(fault) => {
-            print_denial(rt, fault)?;
-            Ok(false)
-        }
+        Ok(header) => list_program(rt, &program, header)?,
+        Err(fault) => return deny(rt, fault),
     }
+    Ok(ExitCode::SUCCESS)
 }
 
 fn list_program(rt: &HostRuntime, program: &[u8], header: Header) -> io::Result<()> {
-    let threads = header.threads;
-    let queues = header.queues;
-    let functions = header.functions;
-    println!(rt;
-        "{:>5}  program: threads {threads}, own queues {queues}, functions {functions}",
-        0
-    )?;
+    println!(rt; "{:>5}  program: {header}", 0)?;
     let mut place = 6;
-    for function in 0..functions {
+    for function in 0..header.functions {
         let Ok((window, start)) = Window::record(program, function, place) else {
             return Ok(());
         };
         print!(rt; "{place:>5}  function{function}")?;
-        if function < threads {
+        if function < header.threads {
             let thread = function.saturating_add(1);
             print!(rt; " (thread {thread})")?;
         }
@@ -69,35 +62,23 @@ fn list_record(rt: &HostRuntime, mut reader: Reader) -> io::Result<()> {
         return Ok(());
     };
     print!(rt; ", depth {depth}, ")?;
-    let parameters = list_types(rt, &mut reader)?;
+    let bound = list_types(rt, &mut reader)?;
     print!(rt; " -> ")?;
     list_types(rt, &mut reader)?;
     println!(rt; "")?;
-    list_nodes(
-        rt,
-        reader,
-        Level {
-            ifs: 0,
-            bound: parameters,
-        },
-    )
+    list_nodes(rt, reader, Level { ifs: 0, bound })
 }
 
 /// Lists a count and that many types; how many there are.
 fn list_types(rt: &HostRuntime, reader: &mut Reader) -> io::Result<usize> {
-    let count = reader.byte().unwrap_or(0);
-    print!(rt; "(")?;
-    for i in 0..count {
-        let Ok((ty, next)) = reader.window.ty(reader.place) else {
-            break;
-        };
+    let count = usize::from(reader.byte().unwrap_or(0));
+    let types = from_fn(|| {
+        let (ty, next) = reader.window.ty(reader.place).ok()?;
         reader.place = next;
-        let name = type_name(ty);
-        let comma = if i > 0 { ", " } else { "" };
-        print!(rt; "{comma}{name}")?;
-    }
-    print!(rt; ")")?;
-    Ok(usize::from(count))
+        Some(ty)
+    });
+    print_list(rt, types.take(count))?;
+    Ok(count)
 }
 
 /// Lists the nodes of a body in byte order. Behind a return stands the second branch of the last open if.
@@ -122,13 +103,8 @@ fn list_nodes(rt: &HostRuntime, mut reader: Reader, first: Level) -> io::Result<
                 print_else(rt, level)?;
             }
             Node::Branch { value, .. } => {
-                print!(rt; "if ")?;
-                print_value(rt, value.value)?;
-                println!(rt; "")?;
-                level = Level {
-                    ifs: level.ifs.saturating_add(1),
-                    bound: level.bound,
-                };
+                println!(rt; "if {}", value.value)?;
+                level.ifs = level.ifs.saturating_add(1);
                 open.push(level)?;
             }
             Node::Call {
@@ -137,13 +113,10 @@ fn list_nodes(rt: &HostRuntime, mut reader: Reader, first: Level) -> io::Result<
                 results,
             } => {
                 print_results(rt, level.bound, results)?;
-                print_operation(rt, operation)?;
+                print!(rt; "{operation}")?;
                 print_values(rt, reader.window, arguments)?;
                 println!(rt; "")?;
-                level = Level {
-                    ifs: level.ifs,
-                    bound: level.bound.saturating_add(usize::from(results)),
-                };
+                level.bound = level.bound.saturating_add(usize::from(results));
             }
         }
     }
@@ -151,46 +124,50 @@ fn list_nodes(rt: &HostRuntime, mut reader: Reader, first: Level) -> io::Result<
 }
 
 fn print_margin(rt: &HostRuntime, place: usize, level: Level) -> io::Result<()> {
-    print!(rt; "{place:>5}    ")?;
-    for _if in 0..level.ifs {
-        print!(rt; "  ")?;
-    }
-    Ok(())
+    let width = 2 * usize::from(level.ifs);
+    print!(rt; "{place:>5}    {:width$}", "")
 }
 
 fn print_else(rt: &HostRuntime, level: Level) -> io::Result<()> {
-    print!(rt; "       ")?;
-    for _if in 0..level.ifs {
-        print!(rt; "  ")?;
-    }
-    println!(rt; "else")
+    let width = 2 * usize::from(level.ifs);
+    println!(rt; "       {:width$}else", "")
 }
 
 /// The variables that a call binds.
 fn print_results(rt: &HostRuntime, bound: usize, results: u8) -> io::Result<()> {
-    for i in 0..results {
-        let variable = bound.saturating_add(usize::from(i));
-        let comma = if i > 0 { ", " } else { "" };
+    for variable in bound..bound.saturating_add(usize::from(results)) {
+        let comma = if variable > bound { ", " } else { "" };
         print!(rt; "{comma}v{variable}")?;
     }
     if results > 0 {
-        print!(rt; " := ")
-    } else {
-        Ok(())
+        print!(rt; " := ")?;
     }
+    Ok(())
 }
 
 fn print_values(rt: &HostRuntime, window: Window, values: Values) -> io::Result<()> {
-    let mut place = values.place;
+    let mut reader = Reader {
+        window,
+        place: values.place,
+    };
+    let read = from_fn(|| reader.value().ok());
+    print_list(rt, read.take(usize::from(values.count)))
+}
+
+/// Writes items in brackets, with commas between them.
+fn print_list<T: Display + Drop, I: Iterator<Item = T>>(
+    rt: &HostRuntime,
+    items: I,
+) -> io::Result<()>
+    requires can { I.can_next items }
+    requires finite { IsFinite (I.remaining items) }
+{
     print!(rt; "(")?;
-    for i in 0..values.count {
-        let Ok((value, next)) = window.value(place) else {
-            break;
-        };
-        let comma = if i > 0 { ", " } else { "" };
-        print!(rt; "{comma}")?;
-        print_value(rt, value)?;
-        place = next;
+    let mut first = true;
+    for item in items {
+        let comma = if first { "" } else { ", " };
+        print!(rt; "{comma}{item}")?;
+        first = false;
     }
     print!(rt; ")")
 }
