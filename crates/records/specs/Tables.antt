@@ -1,5 +1,5 @@
 -- What a table of records says of its program.
-use Rattle.std.specs.Prelude.{◌≡◌, ℕ, ◌≤◌, List, [], ◌∷◌, length, take, Some, None, Ok, Err, Option, Result}
+use Rattle.std.specs.Prelude.{◌≡◌, ℕ, ◌≤◌, List, [], ◌∷◌, length, Some, None, Ok, Err, Option, Result}
 use mathlib.Core.Option.{none, some}
 use Rattle.std.proofs.Math.ListN.{get_elem?}
 use Rattle.reader.specs.declared.faults.Fault.{Fault}
@@ -22,7 +22,7 @@ places (F ∷ Fs) = F.place ∷ places Fs
 pub record Stands (t : Table) (P : Program) : Type 0 where
   pub reads : reading t.program.now ≡ Ok P
   pub counts : t.header ≡ header P
-  pub standing : take t.header.functions t.places ≡ places P.functions
+  pub standing : items t.places ≡ places P.functions
 
 -- the table of bytes: one that stands for the program they read as, or the first fault of layer 1
 abbrev pub Tabled : List ℕ → Result Table Fault → Type 0

@@ -1,6 +1,6 @@
 //! What each operation takes and gives.
 ghost use Rattle.std.specs.Prelude.{◌≡◌, ◌+◌, ◌≤◌, length, None, nat_lt};
-ghost use Rattle.reader.specs.declared.operations.Operation.TheVariants.{Enq, Deq, Function};
+ghost use Rattle.reader.specs.declared.operations.Operation.TheVariants.{Function};
 ghost use Rattle.reader.specs.Syntax.{Program};
 ghost use Rattle.rows.specs.Rows.{items};
 ghost use Rattle.records.specs.Tables.{Stands, Called};
@@ -24,7 +24,7 @@ fn row(types: &[Ty]) -> Row<Ty, 8>
 {
     let mut row = Row::new(Ty::Int);
     for ty in types {
-        row.push(*ty);
+        row.push(*ty).unwrap();
     }
     row
 }
@@ -51,26 +51,6 @@ impl Table<'_> {
         usize::from(queue) < 2 + usize::from(self.header.queues)
     }
 
-    /// Putting a packet into a queue, which the program does not do to `receive`.
-    fn enq(&self, queue: u8) -> Option<Callee>
-        ensures { (P : Program) → Stands self.now P → Called P (Enq queue) result }
-    {
-        if !self.has_queue(queue) || queue == RECEIVE {
-            return None;
-        }
-        Some(built_in(&[Ty::Packet], &[]))
-    }
-
-    /// Taking a packet out of a queue, which the program does not do to `transmit`.
-    fn deq(&self, queue: u8) -> Option<Callee>
-        ensures { (P : Program) → Stands self.now P → Called P (Deq queue) result }
-    {
-        if !self.has_queue(queue) || queue == TRANSMIT {
-            return None;
-        }
-        Some(built_in(&[], &[Ty::Packet]))
-    }
-
     /// A function of the program.
     fn function(&self, function: u8) -> Option<Callee>
         ensures { (P : Program) → Stands self.now P → Called P (Function function) result }
@@ -95,10 +75,14 @@ impl Table<'_> {
             Operation::Kill => Some(built_in(&[Ty::Packet], &[])),
             Operation::Read => Some(built_in(&[Ty::Alias, Ty::Int], &[Ty::Int])),
             Operation::Update => Some(built_in(&[Ty::Alias, Ty::Int, Ty::Int], &[])),
-            Operation::Enq(queue) => self.enq(queue),
-            Operation::Deq(queue) => self.deq(queue),
+            Operation::Enq(queue) if self.has_queue(queue) && queue != RECEIVE => {
+                Some(built_in(&[Ty::Packet], &[]))
+            }
+            Operation::Deq(queue) if self.has_queue(queue) && queue != TRANSMIT => {
+                Some(built_in(&[], &[Ty::Packet]))
+            }
             Operation::Function(function) => self.function(function),
-            Operation::Unknown(_, _) => None,
+            Operation::Enq(_) | Operation::Deq(_) | Operation::Unknown(_, _) => None,
         }
     }
 }

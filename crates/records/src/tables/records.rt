@@ -10,11 +10,7 @@ impl Table<'_> {
     pub fn record(&self, function: u8) -> Option<Record>
         ensures { (P : Program) → Stands self.now P → Recorded self.now.program.now P function result }
     {
-        // Only the first bound ever decides for a program that reads; the second makes any table safe to ask.
-        if function >= self.header.functions || function >= 64 {
-            return None;
-        }
-        let place = self.places[usize::from(function)];
+        let place = self.places.get(usize::from(function))?;
         glance_at(self.program, function, place).ok()
     }
 }
