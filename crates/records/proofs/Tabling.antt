@@ -16,7 +16,7 @@ use Rattle.reader.proofs.Results.{then_ok, pass_ok, ok_same, made_ok}
 use Rattle.reader.proofs.Lists.{range_after}
 use Rattle.reader.proofs.Rows.{records-long}
 use Rattle.reader.proofs.WritesProgram.{ended_ok}
-use Rattle.rows.specs.Rows.{nth}
+use Rattle.std.specs.Prelude.{slice_get}
 use Rattle.records.specs.declared.tables.Record.{Record}
 use Rattle.records.specs.Tables.{places, Recorded}
 use Rattle.records.specs.Glances.{Glance, glance, glanced, glance_at, starts}
@@ -98,16 +98,16 @@ functions-most b h k =
 abbrev pub PlaceOf : List Function → ℕ → Option ℕ → Type 0
 PlaceOf Fs i o = MatchOption o (get_elem? Fs i ≡ none) (λ p. (F : Function) × (get_elem? Fs i ≡ some F) × (p ≡ F.place))
 
-pub place_of : (Fs : List Function) (i : ℕ) (o : Option ℕ) → o ≡ nth (places Fs) i → PlaceOf Fs i o
+pub place_of : (Fs : List Function) (i : ℕ) (o : Option ℕ) → o ≡ slice_get (places Fs) i → PlaceOf Fs i o
 place_of Fs i o h = subst (PlaceOf Fs i) (sym h) (at Fs i)
   where
-    at : (Fs : List Function) (i : ℕ) → PlaceOf Fs i (nth (places Fs) i)
+    at : (Fs : List Function) (i : ℕ) → PlaceOf Fs i (slice_get (places Fs) i)
     at [] i = refl
     at (F ∷ Fs) zero = (F, refl, refl)
     at (F ∷ Fs) (suc i) = at Fs i
 
 -- what is read where the record of a function stands is what it says
-pub recorded : (b : List ℕ) (P : Program) (i p : ℕ) (r : Result Record Fault) → reading b ≡ Ok P → Some p ≡ nth (places P.functions) i
+pub recorded : (b : List ℕ) (P : Program) (i p : ℕ) (r : Result Record Fault) → reading b ≡ Ok P → Some p ≡ slice_get (places P.functions) i
     → glanced r ≡ glance_at b (length b) i p → Recorded b P i (result_ok r)
 recorded b P i p r h at k =
     let f = place_of P.functions i (Some p) at in
