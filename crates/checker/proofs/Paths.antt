@@ -10,10 +10,9 @@ use Rattle.reader.specs.Nodes.{body_at, node_at, sight}
 use Rattle.reader.specs.Syntax.{Body, return, branch, call, Function, Program}
 use Rattle.reader.proofs.Results.{then_ext, ok_same}
 use Rattle.reader.proofs.Parts.{Parts, parts}
-use Rattle.checker.proofs.Giving.{never}
+use Rattle.checker.proofs.Reading.{never}
 use Rattle.rows.specs.Rows.{items}
-use Rattle.typing.specs.declared.entries.Entry.TheVariants.{Has as has}
-use Rattle.typing.specs.Typing.{Ctx}
+use Rattle.typing.specs.Typing.{has, Ctx}
 use Rattle.typing.specs.Signatures.{signature, callee_depth}
 use Rattle.typing.specs.Marks.{ask, known, gives, test, is_tail, depth_holds, body}
 use Rattle.typing.specs.Layers.{inside}

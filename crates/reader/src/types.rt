@@ -1,7 +1,7 @@
 //! The four types.
 
 /// The type of a variable, a parameter or a result.
-#[derive(Clone, Copy)]
+#[derive(Debug, Clone, Copy, PartialEq, Eq)]
 pub enum Ty {
     Int,
     Bool,

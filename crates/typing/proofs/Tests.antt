@@ -38,18 +38,18 @@ eq→eqb {m} e = subst (λ k. T (eqb m k)) e (eqb_refl m)
 -- one more name after others
 pub member-last : (x : ℕ) (ys : List ℕ) → T (member x (ys ++ (x ∷ [])))
 member-last x [] = or_left (eqb x x) false (eqb_refl x)
-member-last x (y ∷ ys) = or_right (eqb x y) (member x (ys ++ (x ∷ []))) (member-last x ys)
+member-last x (y ∷ ys) = or_right (eqb y x) (member x (ys ++ (x ∷ []))) (member-last x ys)
 
 pub member_more : (y x : ℕ) (ys : List ℕ) → T (member y ys) → T (member y (ys ++ (x ∷ [])))
 member_more y x [] t = absurd t
 member_more y x (z ∷ ys) t =
-    or_case (eqb y z) (member y ys) (or_left (eqb y z) _) (λ m. or_right (eqb y z) _ (member_more y x ys m)) t
+    or_case (eqb z y) (member y ys) (or_left (eqb z y) _) (λ m. or_right (eqb z y) _ (member_more y x ys m)) t
 
 pub member_split : (y x : ℕ) (ys : List ℕ) → T (member y (ys ++ (x ∷ []))) → T (member y ys) ⊎ (y ≡ x)
-member_split y x [] t = or_case (eqb y x) false (λ e. inr (eqb→eq y x e)) (λ f. absurd f) t
+member_split y x [] t = or_case (eqb x y) false (λ e. inr (sym (eqb→eq x y e))) (λ f. absurd f) t
 member_split y x (z ∷ ys) t =
-    or_case (eqb y z) (member y (ys ++ (x ∷ []))) (λ e. inl (or_left (eqb y z) (member y ys) e))
-    (λ m. elim (member_split y x ys m) [ inl n ↦ inl (or_right (eqb y z) (member y ys) n) | inr e ↦ inr e ]) t
+    or_case (eqb z y) (member y (ys ++ (x ∷ []))) (λ e. inl (or_left (eqb z y) (member y ys) e))
+    (λ m. elim (member_split y x ys m) [ inl n ↦ inl (or_right (eqb z y) (member y ys) n) | inr e ↦ inr e ]) t
 
 is_variable_sound : (n : ℕ) (v : Value) → T (is_variable n v) → v ≡ variable n
 is_variable_sound n (integer m) t = absurd t
