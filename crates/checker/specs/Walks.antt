@@ -12,7 +12,7 @@ use Rattle.reader.specs.declared.values.Values.{Values}
 use Rattle.reader.specs.declared.windows.Window.{Window}
 use Rattle.reader.specs.Fields.{read_in, then, values_at}
 use Rattle.reader.specs.Syntax.{Body, Function, Program}
-use Rattle.records.specs.Tables.{Stands}
+use Rattle.records.specs.Tables.{Stands, Says}
 use Rattle.rows.specs.Rows.{items}
 use Rattle.typing.specs.Typing.{Entry, has, Ctx}
 use Rattle.typing.specs.Signatures.{signature, callee_depth}
@@ -70,8 +70,7 @@ pub record Walks (w : Walk) (P : Program) (F : Function) : Type 0 where
   pub stands : Stands w.table P
   pub bytes : w.window.bytes.now ≡ w.table.program.now
   pub function : get_elem? P.functions w.window.function ≡ some F
-  pub depth : w.depth ≡ F.depth
-  pub results : items w.results ≡ F.results
+  pub says : Says w.table.program.now w.window.function F w.record
 
 -- what a call may answer for each of some functions, by its number, is what asks says
 abbrev pub Answers : (ℕ → Result (Unit {0}) Fault → Type 0) → (asks : ℕ → Function → Result (Unit {0}) Fault) → List Function → Type 0

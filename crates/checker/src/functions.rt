@@ -1,10 +1,7 @@
 //! Questions about single functions.
 ghost use Rattle.std.specs.Prelude.{◌≡◌, not, ◌&&◌, ◌||◌, nat_le, position};
-ghost use Rattle.std.proofs.Math.Option.{some};
-ghost use Rattle.std.proofs.Math.ListN.{get_elem?};
-ghost use Rattle.reader.specs.Syntax.{Function, Program};
 ghost use Rattle.rows.specs.Rows.{items};
-ghost use Rattle.records.specs.Tables.{Stands};
+ghost use Rattle.records.specs.Tables.{ForFunction};
 ghost use Rattle.typing.specs.Layers.{empty, unlent, outside, inside};
 
 use crate::marks::Marks;
@@ -32,7 +29,7 @@ fn is_ready(threads: u8, function: u8, found: &Record) -> bool
 
 /// Layer 2 of a function: a thread's takes and gives nothing, and none gives an alias.
 pub(crate) fn outside(table: &Table, function: u8) -> Result<(), Fault>
-    ensures { (P : Program) (F : Function) → Stands table.now P → get_elem? P.functions function ≡ some F → result ≡ outside P function F }
+    ensures { ForFunction table.now function (λ P F. result ≡ outside P function F) }
 {
     let Some(place) = table.places.get(usize::from(function)) else {
         return Ok(());
@@ -54,7 +51,7 @@ pub(crate) fn outside(table: &Table, function: u8) -> Result<(), Fault>
 
 /// Layer 3 of a function: its body, from its parameters.
 pub(crate) fn inside(table: &Table, function: u8) -> Result<(), Fault>
-    ensures { (P : Program) (F : Function) → Stands table.now P → get_elem? P.functions function ≡ some F → result ≡ inside P function F }
+    ensures { ForFunction table.now function (λ P F. result ≡ inside P function F) }
 {
     let Some(record) = table.record(function) else {
         return Ok(());
@@ -68,8 +65,7 @@ pub(crate) fn inside(table: &Table, function: u8) -> Result<(), Fault>
     let walk = Walk {
         table: *table,
         window,
-        depth: record.depth,
-        results: record.results,
+        record,
     };
     let mut marks = Marks {
         entries: Row::new(None),

@@ -33,12 +33,12 @@ fn deep_enough(depth: u8, callee: Option<u8>, tailed: bool) -> bool
 impl Walk<'_> {
     /// Puts the questions about a return.
     pub(crate) fn leave(&self, marks: &mut Marks, place: usize, values: Values) -> Result<(), Fault>
-        ensures { (vs : List Placed) → Holds self.now.window values vs → result ≡ leaving self.now.window.function place (context marks.old) vs (items self.now.results) }
+        ensures { (vs : List Placed) → Holds self.now.window values vs → result ≡ leaving self.now.window.function place (context marks.old) vs (items self.now.record.results) }
     {
-        if usize::from(values.count) != self.results.len() {
+        if usize::from(values.count) != self.record.results.len() {
             return Err(self.fault(Question::Counts, place));
         }
-        self.give_all(marks, values, &self.results)?;
+        self.give_all(marks, values, &self.record.results)?;
         if !marks.all_spent() {
             return Err(self.fault(Question::OwnersSpent, place));
         }
@@ -48,14 +48,14 @@ impl Walk<'_> {
     /// Puts the questions about a call's results, once its arguments are given, and binds them.
     fn bind(&self, marks: &mut Marks, ifs: u8, call: Call, callee: &Callee) -> Result<(), Fault>
         requires { length (items callee.now.results) ≡ call.results }
-        ensures { (t : Body × ℕ) → read_in self.now.window body_at ifs call.next ≡ Ok t → changed result marks.new ≡ binding self.now.window.function call.place self.now.depth (maybe callee.now.depth) call.results t.0 (items callee.now.results) (context marks.old) }
+        ensures { (t : Body × ℕ) → read_in self.now.window body_at ifs call.next ≡ Ok t → changed result marks.new ≡ binding self.now.window.function call.place self.now.record.depth (maybe callee.now.depth) call.results t.0 (items callee.now.results) (context marks.old) }
     {
         let bound = marks.entries.len();
         if bound + usize::from(call.results) > MOST_VARIABLES {
             return Err(self.fault(Question::Room, call.place));
         }
         let tailed = self.is_tail(ifs, bound, call.results, call.next);
-        if !deep_enough(self.depth, callee.depth, tailed) {
+        if !deep_enough(self.record.depth, callee.depth, tailed) {
             return Err(self.fault(Question::DepthRule, call.place));
         }
         marks.bind_all(&callee.results);
@@ -64,7 +64,7 @@ impl Walk<'_> {
 
     /// Puts the questions about a call.
     pub(crate) fn enter(&self, marks: &mut Marks, ifs: u8, call: Call) -> Result<(), Fault>
-        ensures { (P : Program) (vs : List Placed) (t : Body × ℕ) → Stands self.now.table P → Holds self.now.window call.arguments vs → read_in self.now.window body_at ifs call.next ≡ Ok t → changed result marks.new ≡ entering P self.now.window.function call.place self.now.depth (context marks.old) call.operation vs call.results t.0 }
+        ensures { (P : Program) (vs : List Placed) (t : Body × ℕ) → Stands self.now.table P → Holds self.now.window call.arguments vs → read_in self.now.window body_at ifs call.next ≡ Ok t → changed result marks.new ≡ entering P self.now.window.function call.place self.now.record.depth (context marks.old) call.operation vs call.results t.0 }
     {
         let Some(callee) = self.table.callee(call.operation) else {
             return Err(self.fault(Question::Callee, call.place));

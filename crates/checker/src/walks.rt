@@ -5,20 +5,17 @@ ghost use Rattle.reader.specs.Faults.{fault};
 use reader::faults::Fault;
 use reader::operations::Operation;
 use reader::questions::Question;
-use reader::types::Ty;
 use reader::values::Values;
 use reader::windows::Window;
-use records::tables::Table;
-use rows::row::Row;
+use records::tables::{Record, Table};
 
 /// The function whose body is walked, in its program.
 #[derive(Clone, Copy)]
 pub(crate) struct Walk<'a> {
     pub(crate) table: Table<'a>,
-    /// The record of the function.
+    /// The bytes of the function's record.
     pub(crate) window: Window<'a>,
-    pub(crate) depth: u8,
-    pub(crate) results: Row<Ty, 8>,
+    pub(crate) record: Record,
 }
 
 impl Walk<'_> {

@@ -1,7 +1,6 @@
 -- Rows that grow by what is read: one more.
-use Rattle.std.proofs.Common.{◌≡◌, ℕ, suc, ◌+◌, ◌-◌, ◌<◌, List, [], ◌∷◌, ◌++◌, Ok, Err, Result, sym, refl, ap, ◌∙◌, arith}
+use Rattle.std.proofs.Common.{◌≡◌, ℕ, suc, ◌+◌, ◌-◌, ◌<◌, List, [], ◌∷◌, ◌++◌, Ok, Err, sym, refl, ap, ◌∙◌, arith}
 use Rattle.std.proofs.lemmas.List.{append_assoc}
-use Rattle.reader.specs.declared.faults.Fault.{Fault}
 use Rattle.reader.specs.declared.types.Ty.{Ty}
 use Rattle.reader.specs.Fields.{Read, then, type_at}
 use Rattle.reader.specs.Programs.{types_at}
@@ -11,10 +10,6 @@ use Rattle.records.specs.Glances.{after, starts}
 abbrev pub joined : {X : Type 0} → List X → Read (List X) → Read (List X)
 joined xs (Ok r) = Ok (xs ++ r.0, r.1)
 joined xs (Err e) = Err e
-
-joined-then : {X Y : Type 0} (xs : List X) (r : Result Y Fault) (g : Y → Read (List X)) → joined xs (then r g) ≡ then r (λ y. joined xs (g y))
-joined-then xs (Ok y) g = refl
-joined-then xs (Err e) g = refl
 
 joined_more : {X : Type 0} (xs : List X) (x : X) (r : Read (List X)) → joined xs (then r λ ys. Ok (x ∷ ys.0, ys.1)) ≡ joined (xs ++ x ∷ []) r
 joined_more xs x (Ok r) = ap (λ ys. Ok (ys, r.1)) (sym (append_assoc xs (x ∷ []) r.0))

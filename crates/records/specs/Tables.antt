@@ -24,6 +24,14 @@ pub record Stands (t : Table) (P : Program) : Type 0 where
   pub counts : t.header ≡ header P
   pub standing : items t.places ≡ places P.functions
 
+-- a fact about the program that a table stands for, if it stands for one
+abbrev pub ForProgram : Table → (Program → Type 0) → Type 0
+ForProgram t fact = (P : Program) → Stands t P → fact P
+
+-- and about function i of that program, if it has one
+abbrev pub ForFunction : Table → (i : ℕ) → (Program → Function → Type 0) → Type 0
+ForFunction t i fact = ForProgram t (λ P. (F : Function) → get_elem? P.functions i ≡ some F → fact P F)
+
 -- the table of bytes: one that stands for the program they read as, or the first fault of layer 1
 abbrev pub Tabled : List ℕ → Result Table Fault → Type 0
 Tabled b (Ok t) = (t.program.now ≡ b) × ((P : Program) × Stands t P)

@@ -1,9 +1,8 @@
 //! What each operation takes and gives.
 ghost use Rattle.std.specs.Prelude.{◌≡◌, ◌+◌, ◌≤◌, length, None, nat_lt};
 ghost use Rattle.reader.specs.declared.operations.Operation.TheVariants.{Function};
-ghost use Rattle.reader.specs.Syntax.{Program};
 ghost use Rattle.rows.specs.Rows.{items};
-ghost use Rattle.records.specs.Tables.{Stands, Called};
+ghost use Rattle.records.specs.Tables.{ForProgram, Called};
 
 use super::Callee;
 use crate::tables::Table;
@@ -53,7 +52,7 @@ impl Table<'_> {
 
     /// A function of the program.
     fn function(&self, function: u8) -> Option<Callee>
-        ensures { (P : Program) → Stands self.now P → Called P (Function function) result }
+        ensures { ForProgram self.now (λ P. Called P (Function function) result) }
     {
         let record = self.record(function)?;
         Some(Callee {
@@ -65,7 +64,7 @@ impl Table<'_> {
 
     /// What an operation takes and gives, if the program has that operation.
     pub fn callee(&self, operation: Operation) -> Option<Callee>
-        ensures { (P : Program) → Stands self.now P → Called P operation result }
+        ensures { ForProgram self.now (λ P. Called P operation result) }
     {
         match operation {
             Operation::Compute(_) => Some(built_in(&[Ty::Int, Ty::Int], &[Ty::Int])),

@@ -7,7 +7,7 @@ use Rattle.checker.proofs.Places.{says_of}
 use Rattle.checker.proofs.functions.inside.Goals as goal
 
 pub returns-in_err-body : goal.returns-in_err-body
-returns-in_err-body c P F s h =
+returns-in_err-body c P s F h =
     let t = c.args.table.now in
     let i = c.args.function in
     let r = c.in-Some.record in
@@ -15,18 +15,18 @@ returns-in_err-body c P F s h =
     let e : c.min-end.result ≡ r.end = omega (arith, y.inside, c.min-end.ensures) in
     let x : c.from_residual.result ≡ Err c.in_err-body.field-0.0 = search rules in
     x ∙ inside_is P i F (context c.bind_all.new.self) r.end (Err c.in_err-body.field-0.0)
-    (c.in_err-body.ensures.answer P F (F.body, r.end) (record { stands = s; bytes = refl; function = h; depth = y.depth; results = y.results })
+    (c.in_err-body.ensures.answer P F (F.body, r.end) (record { stands = s; bytes = refl; function = h; says = y })
     (ap (λ z. body_at t.program.now z i 0 r.body) e ∙ y.body))
     (c.bind_all.ensures ∙ (λ j. c.new.ensures j ++ map has (y.params j)))
 
 pub returns : goal.returns
-returns c P F s h =
+returns c P s F h =
     let t = c.args.table.now in
     let i = c.args.function in
     let r = c.in-Some.record in
     let y = says_of t.program.now P i F r (c.in-Some.ensures P s) h in
     let e : c.min-end.result ≡ r.end = omega (arith, y.inside, c.min-end.ensures) in
     inside_is P i F (context c.bind_all.new.self) r.end (Ok c.in_ok-body.field-0)
-    (c.in_ok-body.ensures.answer P F (F.body, r.end) (record { stands = s; bytes = refl; function = h; depth = y.depth; results = y.results })
+    (c.in_ok-body.ensures.answer P F (F.body, r.end) (record { stands = s; bytes = refl; function = h; says = y })
     (ap (λ z. body_at t.program.now z i 0 r.body) e ∙ y.body))
     (c.bind_all.ensures ∙ (λ j. c.new.ensures j ++ map has (y.params j)))

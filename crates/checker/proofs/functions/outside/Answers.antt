@@ -9,12 +9,12 @@ use Rattle.checker.proofs.Places.{place_is, place_none, ready-is, body-place, sa
 use Rattle.checker.proofs.functions.outside.Goals as goal
 
 pub returns-in_default : goal.returns-in_default
-returns-in_default c P F s h =
+returns-in_default c P s F h =
     let none : None ≡ slice_get (places P.functions) c.args.function = cc c.in_default.ensures in
     absurd (place_none P c.args.function F none h)
 
 pub returns-then-not-is_ready : goal.returns-then-not-is_ready
-returns-then-not-is_ready c P F s h =
+returns-then-not-is_ready c P s F h =
     let t = c.args.table.now in
     let i = c.args.function in
     let r = c.in-Some-record.record in
@@ -24,7 +24,7 @@ returns-then-not-is_ready c P F s h =
     ∙ outside-is P i F false _ (c.if-not-is_ready.ensures ∙ ready-is t P s i F h r y) refl
 
 pub returns-in-None : goal.returns-in-None
-returns-in-None c P F s h =
+returns-in-None c P s F h =
     let t = c.args.table.now in
     let i = c.args.function in
     let r = c.in-Some-record.record in
@@ -32,7 +32,7 @@ returns-in-None c P F s h =
     outside-is P i F true None (c.if-not-is_ready.ensures ∙ ready-is t P s i F h r y) (c.in-None.ensures ∙ ap (position lent) y.results)
 
 pub returns-in-Some-first_alias : goal.returns-in-Some-first_alias
-returns-in-Some-first_alias c P F s h =
+returns-in-Some-first_alias c P s F h =
     let t = c.args.table.now in
     let i = c.args.function in
     let k = c.in-Some-first_alias.i in
