@@ -1,61 +1,40 @@
--- The question about the results of a function, one type after the other.
-use Rattle.std.proofs.Common.{◌≡◌, ℕ, ◌+◌, ◌<◌, ◌≤◌, Bool, true, false, ◌&&◌, ◌||◌, eqb, leb, List, [], ◌∷◌, length, drop, Some, Ok, Err, Result, sym, refl, ap, ◌∙◌, arith, ne_eqb, le-leb}
-use borrow.Author.Tests.{lt-leb}
+-- Layer 2 of a function, answer by answer.
+use Rattle.std.proofs.Common.{◌≡◌, ℕ, ◌+◌, Bool, not, List, [], ◌∷◌, Some, None, Option, Ok, Result, sym, refl, ap, ◌∙◌, add-zero, add_assoc}
+use Rattle.std.specs.Prelude.{position}
+use Rattle.std.specs.List.{position_from}
+use Rattle.std.proofs.lemmas.Iterator.Adapters.{position_from-zero}
 use Rattle.reader.specs.declared.questions.Question.TheVariants as q
 use Rattle.reader.specs.declared.faults.Fault.{Fault}
 use Rattle.reader.specs.declared.types.Ty.{Ty}
-use Rattle.reader.specs.declared.types.Ty.TheVariants.{Int, Bool as Truth, Packet, Alias}
-use Rattle.reader.specs.Faults.{fault}
 use Rattle.reader.specs.Fields.{then, denied}
 use Rattle.reader.specs.Syntax.{Function, Program}
-use Rattle.rows.specs.Rows.{nth}
+use Rattle.typing.specs.Signatures.{int, bool, packet, alias}
 use Rattle.typing.specs.Marks.{ask}
-use Rattle.typing.specs.Layers.{empty, unlent, no_alias, results_place, thread_ready, outside}
-use Rattle.checker.proofs.Leaves.{drop_nth, drop-end}
+use Rattle.typing.specs.Layers.{unlent, no_alias, results_place, thread_ready, outside}
 
-abbrev pub Passes : List Ty → ℕ → Type 0
-Passes ts i = (f p : ℕ) → no_alias f (p + i) (drop i ts) ≡ no_alias f p ts
+-- what is answered where the first alias has a place among the results, which stand from p on
+abbrev pub lent_at : (i p : ℕ) → Option ℕ → Result (Unit {0}) Fault
+lent_at i p None = Ok tt
+lent_at i p (Some k) = denied q.NoAliasResult i (p + k)
 
-pub passes_none : (ts : List Ty) → Passes ts 0
-passes_none ts f p = ap (λ x. no_alias f x ts) (omega arith)
+abbrev pub lent : Ty → Bool
+lent τ = not (unlent τ)
 
-pub alias_here : (ts : List Ty) (i : ℕ) → Passes ts i → nth ts i ≡ Some Alias → (f p : ℕ) → no_alias f p ts ≡ denied q.NoAliasResult f (p + i)
-alias_here ts i g h f p = sym (g f p) ∙ ap (no_alias f (p + i)) (drop_nth ts i Alias h)
+pub no_alias-position : (i p : ℕ) (τs : List Ty) → no_alias i p τs ≡ lent_at i p (position lent τs)
+no_alias-position i p τs = ap (λ n. no_alias i n τs) (sym (add-zero p)) ∙ from 0 τs ∙ ap (lent_at i p) (sym (position_from-zero lent τs))
+  where
+    from : (k : ℕ) (τs : List Ty) → no_alias i (p + k) τs ≡ lent_at i p (position_from lent k τs)
+    from k [] = refl
+    from k (int ∷ τs) = ap (λ n. no_alias i n τs) (add_assoc p k 1) ∙ from (k + 1) τs
+    from k (bool ∷ τs) = ap (λ n. no_alias i n τs) (add_assoc p k 1) ∙ from (k + 1) τs
+    from k (packet ∷ τs) = ap (λ n. no_alias i n τs) (add_assoc p k 1) ∙ from (k + 1) τs
+    from k (alias ∷ τs) = refl
 
-other : (t : Ty) → ¬ (t ≡ Alias) → unlent t ≡ true
-other Int n = refl
-other Truth n = refl
-other Packet n = refl
-other Alias n = absurd (n refl)
+-- layer 2 of a function, by what its two questions find
+abbrev pub outside_by : (i : ℕ) (F : Function) → (ready : Bool) → (first : Option ℕ) → Result (Unit {0}) Fault
+outside_by i F ready first = then (ask q.ThreadSignature i F.place ready) λ _. lent_at i (results_place F) first
 
-pub passes-next : (ts : List Ty) (i : ℕ) (t : Ty) → Passes ts i → nth ts i ≡ Some t → ¬ (t ≡ Alias) → Passes ts (i + 1)
-passes-next ts i t g h n f p =
-    ap (λ x. no_alias f x (drop (i + 1) ts)) (omega arith)
-    ∙ sym (ap (no_alias f (p + i)) (drop_nth ts i t h) ∙ ap (λ b. then (ask q.NoAliasResult f (p + i) b) (λ _. no_alias f (p + i + 1) (drop (i + 1) ts))) (other t n))
-    ∙ g f p
-
-pub passes_all : (ts : List Ty) (i : ℕ) → Passes ts i → length ts ≤ i → (f p : ℕ) → no_alias f p ts ≡ Ok tt
-passes_all ts i g l f p = sym (g f p) ∙ ap (no_alias f (p + i)) (drop-end ts i l)
-
--- layer 2 of a function, answer by answer
-pub empty-long : (ts : List Ty) → empty ts ≡ eqb (length ts) 0
-empty-long [] = refl
-empty-long (t ∷ ts) = sym (ne_eqb (length (t ∷ ts)) 0 (λ h. omega arith))
-
-module _ (P : Program) (i : ℕ) (F : Function) where
-  pub ready : (x : Result (Unit {0}) Fault) → thread_ready P i F ≡ true → x ≡ no_alias i (results_place F) F.results → x ≡ outside P i F
-  ready x h k = k ∙ sym (ap (λ b. then (ask q.ThreadSignature i F.place b) (λ _. no_alias i (results_place F) F.results)) h)
-
-  pub no_thread : P.threads ≤ i → thread_ready P i F ≡ true
-  no_thread l = ap (λ b. b || (empty F.params && empty F.results)) (le-leb P.threads i l)
-
-  pub bare_thread : (empty F.params && empty F.results) ≡ true → thread_ready P i F ≡ true
-  bare_thread h = ap (λ b. leb P.threads i || b) h ∙ or-true (leb P.threads i)
-    where
-      or-true : (b : Bool) → b || true ≡ true
-      or-true true = refl
-      or-true false = refl
-
-  pub not_ready : i < P.threads → (empty F.params && empty F.results) ≡ false → Err (fault q.ThreadSignature i F.place) ≡ outside P i F
-  not_ready l h =
-      sym (ap (λ b. then (ask q.ThreadSignature i F.place b) (λ _. no_alias i (results_place F) F.results)) (λ j. lt-leb P.threads i l j || h j))
+pub outside-is : (P : Program) (i : ℕ) (F : Function) (ready : Bool) (first : Option ℕ) → ready ≡ thread_ready P i F → first ≡ position lent F.results
+    → outside_by i F ready first ≡ outside P i F
+outside-is P i F ready first h k =
+    (λ j. outside_by i F (h j) (k j)) ∙ ap (λ r. then (ask q.ThreadSignature i F.place (thread_ready P i F)) (λ _. r)) (sym (no_alias-position i (results_place F) F.results))

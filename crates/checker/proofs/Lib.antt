@@ -1,9 +1,8 @@
-pub mod Leaves
+pub mod Each
+pub mod Aliases
+pub mod Places
+pub mod Reading
 pub mod Giving
 pub mod Tails
-pub mod Whole
 pub mod Paths
-pub mod Places
-pub mod Aliases
-pub mod Each
 pub mod Verdicts

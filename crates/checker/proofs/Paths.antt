@@ -10,10 +10,9 @@ use Rattle.reader.specs.Nodes.{body_at, node_at, sight}
 use Rattle.reader.specs.Syntax.{Body, return, branch, call, Function, Program}
 use Rattle.reader.proofs.Results.{then_ext, ok_same}
 use Rattle.reader.proofs.Parts.{Parts, parts}
-use Rattle.checker.proofs.Giving.{never}
+use Rattle.checker.proofs.Reading.{never}
 use Rattle.rows.specs.Rows.{items}
-use Rattle.typing.specs.declared.entries.Entry.TheVariants.{Has as has}
-use Rattle.typing.specs.Typing.{Ctx}
+use Rattle.typing.specs.Typing.{has, Ctx}
 use Rattle.typing.specs.Signatures.{signature, callee_depth}
 use Rattle.typing.specs.Marks.{ask, known, gives, test, is_tail, depth_holds, body}
 use Rattle.typing.specs.Layers.{inside}
@@ -44,10 +43,10 @@ answer_at P i F H t = then (body P i F H t.0) (λ _. Ok t.1)
 
 module _ (w : Walk) (P : Program) (F : Function) (s : Walks w P F) (H : Ctx) (t : Body × ℕ) where
   -- a return
-  pub path_return : (p next : ℕ) (vs : List Operand) (a : Result (Unit {0}) Fault) → t ≡ (return p vs, next) → a ≡ leaving w.window.function p H vs (items w.results)
+  pub path_return : (p next : ℕ) (vs : List Operand) (a : Result (Unit {0}) Fault) → t ≡ (return p vs, next) → a ≡ leaving w.window.function p H vs (items w.record.results)
       → then a (λ _. Ok next) ≡ answer_at P w.window.function F H t
   path_return p next vs a h k =
-      ap (λ x. then x (λ _. Ok next)) (k ∙ ap (leaving w.window.function p H vs) s.results)
+      ap (λ x. then x (λ _. Ok next)) (k ∙ ap (leaving w.window.function p H vs) s.says.results)
       ∙ ap (answer_at P w.window.function F H) (sym h)
 
   -- an if: its value, then the first branch, then the second, both from the marks before it
@@ -65,10 +64,10 @@ module _ (w : Walk) (P : Program) (F : Function) (s : Walks w P F) (H : Ctx) (t 
 
   -- a call, then what follows it from the marks it leaves
   pub path_call : (p : ℕ) (f : Operation) (vs : List Operand) (j : ℕ) (u : Body × ℕ) (a : Result Ctx Fault) → t ≡ (call p f vs j u.0, u.1)
-      → a ≡ entering P w.window.function p w.depth H f vs j u.0
+      → a ≡ entering P w.window.function p w.record.depth H f vs j u.0
       → then a (λ G. answer_at P w.window.function F G u) ≡ answer_at P w.window.function F H t
   path_call p f vs j u a h k =
-      ap (λ x. then x (λ G. answer_at P w.window.function F G u)) (k ∙ ap (λ d. entering P w.window.function p d H f vs j u.0) s.depth)
+      ap (λ x. then x (λ G. answer_at P w.window.function F G u)) (k ∙ ap (λ d. entering P w.window.function p d H f vs j u.0) s.says.depth)
       ∙ sym (then_assoc (entering P w.window.function p F.depth H f vs j u.0) (λ G. body P w.window.function F G u.0) (λ _. Ok u.1))
       ∙ ap (λ r. then r (λ _. Ok u.1)) (call-is P w.window.function F H p f vs j u.0)
       ∙ ap (answer_at P w.window.function F H) (sym h)

@@ -1,8 +1,8 @@
 -- Where the parts of a function's record stand.
-use Rattle.std.proofs.Common.{◌≡◌, ℕ, zero, suc, ◌+◌, ◌-◌, ◌<◌, eqb, List, [], ◌∷◌, length, get_or, Some, None, Ok, sym, ap, ◌∙◌, subst, inl, inr, arith}
-use mathlib.Core.Option.{none, some}
+use Rattle.std.proofs.Common.{◌≡◌, ℕ, zero, suc, ◌+◌, ◌-◌, ◌&&◌, ◌||◌, eqb, leb, List, [], ◌∷◌, length, Some, None, Ok, sym, ap, ◌∙◌, subst, inl, inr, arith}
+use mathlib.Core.Option.{Option as Maybe, none, some}
 use lib.ListN.{get_elem?}
-use Rattle.std.proofs.lemmas.List.{get_or-take}
+use Rattle.std.specs.Prelude.{slice_get}
 use Rattle.reader.specs.declared.questions.Question.TheVariants as q
 use Rattle.reader.specs.declared.types.Ty.{Ty}
 use Rattle.reader.specs.Fields.{Read, byte_at, type_at, count_at}
@@ -12,11 +12,13 @@ use Rattle.reader.specs.Syntax.{Body, return, branch, call, Function, Program}
 use Rattle.reader.proofs.Results.{then_ok, pass_ok, which, ok_same}
 use Rattle.reader.proofs.Lists.{byte_after, range_after}
 use Rattle.reader.proofs.Following.{body_is}
+use Rattle.rows.specs.Rows.{items}
+use Rattle.typing.specs.Layers.{empty, thread_ready}
 use Rattle.records.specs.declared.tables.Table.{Table}
 use Rattle.records.specs.declared.tables.Record.{Record}
 use Rattle.records.specs.Tables.{places, Stands, Says, Recorded}
 use Rattle.records.proofs.Standing as standing
-use Rattle.records.proofs.Tabling.{program-records}
+use Rattle.records.proofs.Tabling.{program-records, place_of}
 
 -- the place of a body's first tag
 abbrev root : Body → ℕ
@@ -73,28 +75,7 @@ module _ (b : List ℕ) (e f : ℕ) where
       let r = types-after n.0.0 n.0.1 x n.2 in
       omega (arith, range_after b e f q.ListLength 0 8 p n.0 n.1, r.0, r.1)
 
-some_below : {X : Type 0} (xs : List X) (i : ℕ) (x : X) → get_elem? xs i ≡ some x → i < length xs
-some_below [] i x h = absurd (let z : ◌≡◌ {A = ℕ} 0 1 = cc in omega arith)
-some_below (y ∷ ys) zero x h = omega arith
-some_below (y ∷ ys) (suc i) x h = omega (arith, some_below ys i x h)
-
-places-at : (Fs : List Function) (i : ℕ) (F : Function) → get_elem? Fs i ≡ some F → get_or (places Fs) i 0 ≡ F.place
-places-at [] i F h = absurd (let z : ◌≡◌ {A = ℕ} 0 1 = cc in omega arith)
-places-at (G ∷ Gs) zero F h = let e : G ≡ F = cc in ap (λ (K : Function). K.place) e
-places-at (G ∷ Gs) (suc i) F h = places-at Gs i F h
-
 module _ (t : Table) (P : Program) (s : Stands t P) (i : ℕ) (F : Function) (h : get_elem? P.functions i ≡ some F) where
-  pub below : i < length P.functions
-  below = some_below P.functions i F h
-
-  pub few : i < 64
-  few = omega (arith, below, (program-records t.program.now P s.reads).most)
-
-  pub place_is : get_or t.places i 0 ≡ F.place
-  place_is =
-      let n : i < t.header.functions = omega (arith, below, ap (λ (y : _). y.functions) s.counts) in
-      sym (get_or-take t.header.functions t.places i 0 n) ∙ ap (λ xs. get_or xs i 0) s.standing ∙ places-at P.functions i F h
-
   -- the body follows the types of the results, which follow those of the parameters
   pub body-place : (r : Record) → Says t.program.now i F r → r.body ≡ F.place + 5 + length F.params + length F.results
   body-place r y =
@@ -108,15 +89,22 @@ module _ (t : Table) (P : Program) (s : Stands t P) (i : ℕ) (F : Function) (h 
       let three = signature-after b k.end (0 + i) k.params (F.results, k.results) k.results_read in
       omega arith
 
--- the record that a table gives is that of the function
-pub says_of : (b : List ℕ) (P : Program) (i : ℕ) (F : Function) (r : Record) → Recorded b P i (Some r) → get_elem? P.functions i ≡ some F → Says b i F r
-says_of b P i F r (G, h, y) k = let e : G ≡ F = same G F (sym h ∙ k) in subst (λ (K : Function). Says b i K r) e y
-  where
-    same : (G F : Function) → some G ≡ some F → G ≡ F
-    same G F h = cc
+  -- the question of threads, as the code puts it
+  pub ready-is : (r : Record) → Says t.program.now i F r → (leb t.header.threads i || (empty (items r.params) && empty (items r.results))) ≡ thread_ready P i F
+  ready-is r y = λ j. leb (s.counts j).threads i || (empty (y.params j) && empty (y.results j))
 
-pub recorded_not : (b : List ℕ) (P : Program) (i : ℕ) (F : Function) → Recorded b P i None → get_elem? P.functions i ≡ some F → ⊥
-recorded_not b P i F h k = never F (sym h ∙ k)
+-- the place and the record that a table gives are those of the function
+same : (F G : Function) (o : Maybe Function) → o ≡ some F → o ≡ some G → F ≡ G
+same F G o h k = cc
+
+pub place_is : (P : Program) (i p : ℕ) (F : Function) → Some p ≡ slice_get (places P.functions) i → get_elem? P.functions i ≡ some F → p ≡ F.place
+place_is P i p F h k = let (G, g, is) = place_of P.functions i (Some p) h in is ∙ ap (λ (K : Function). K.place) (same G F _ g k)
+
+pub says_of : (b : List ℕ) (P : Program) (i : ℕ) (F : Function) (r : Record) → Recorded b P i (Some r) → get_elem? P.functions i ≡ some F → Says b i F r
+says_of b P i F r (G, h, y) k = subst (λ (K : Function). Says b i K r) (same G F _ h k) y
+
+pub place_none : (P : Program) (i : ℕ) (F : Function) → None ≡ slice_get (places P.functions) i → get_elem? P.functions i ≡ some F → ⊥
+place_none P i F h k = other F _ (place_of P.functions i None h) k
   where
-    never : (F : Function) → none ≡ some F → ⊥
-    never F h = let z : ◌≡◌ {A = ℕ} 0 1 = cc in omega arith
+    other : (F : Function) (o : Maybe Function) → o ≡ none → o ≡ some F → ⊥
+    other F o h k = let z : ◌≡◌ {A = ℕ} 0 1 = cc in omega arith

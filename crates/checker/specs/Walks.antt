@@ -1,5 +1,5 @@
 -- What the code's walks over a body keep and answer.
-use Rattle.std.specs.Prelude.{◌≡◌, ℕ, ◌+◌, ◌<◌, true, false, ◌&&◌, List, [], ◌++◌, map, length, take, Some, None, Ok, Err, Option, Result, ◌==◌, nat_le}
+use Rattle.std.specs.Prelude.{◌≡◌, ℕ, ◌+◌, true, false, ◌&&◌, List, [], ◌++◌, map, length, take, Some, None, Ok, Err, Option, Result, ◌==◌, nat_le}
 use Rattle.std.proofs.Math.Option.{Option as Maybe, some}
 use Rattle.std.proofs.Math.ListN.{get_elem?}
 use Rattle.reader.specs.declared.faults.Fault.{Fault}
@@ -8,17 +8,16 @@ use Rattle.reader.specs.declared.operations.Operation.{Operation}
 use Rattle.reader.specs.declared.types.Ty.{Ty}
 use Rattle.reader.specs.declared.values.Value.{Value}
 use Rattle.reader.specs.declared.values.Operand.{Operand}
-use Rattle.reader.specs.Fields.{then, denied}
+use Rattle.reader.specs.declared.values.Values.{Values}
+use Rattle.reader.specs.declared.windows.Window.{Window}
+use Rattle.reader.specs.Fields.{read_in, then, values_at}
 use Rattle.reader.specs.Syntax.{Body, Function, Program}
-use Rattle.records.specs.Tables.{Stands}
+use Rattle.records.specs.Tables.{Stands, Says}
 use Rattle.rows.specs.Rows.{items}
-use Rattle.typing.specs.declared.entries.Entry.{Entry}
-use Rattle.typing.specs.Typing.{Ctx}
-use Rattle.typing.specs.declared.entries.Entry.TheVariants.{Has}
+use Rattle.typing.specs.Typing.{Entry, has, Ctx}
 use Rattle.typing.specs.Signatures.{signature, callee_depth}
 use Rattle.typing.specs.Marks.{ask, known, bound, entry, gives, all_spent, is_tail, depth_holds}
 use Rattle.checker.specs.declared.walks.Walk.{Walk}
-use Rattle.typing.specs.Layers.{no_alias}
 use Rattle.checker.specs.declared.marks.Marks.{Marks}
 
 -- the marks as a context
@@ -28,6 +27,16 @@ context m = items m.entries
 -- what is known of a value, if it is bound
 abbrev pub seen : Ctx → Value → Option Entry
 seen H v = elim (bound H v) [ true ↦ Some (entry H v) | false ↦ None ]
+
+-- what is known of a value that is asked to be bound
+abbrev pub sighted : (i : ℕ) → Ctx → Operand → Result Entry Fault
+sighted i H v = then (ask q.Bound i v.place (bound H v.value)) λ _. Ok (entry H v.value)
+
+-- the values of a list that stands in a window
+pub record Holds (w : Window) (l : Values) (vs : List Operand) : Type 0 where
+  pub stop : ℕ
+  pub reads : read_in w values_at l.count l.place ≡ Ok (vs, stop)
+  pub long : length vs ≡ l.count
 
 -- what a change of the marks comes to: the marks after it, or a fault
 abbrev pub changed : {X : Type 0} → Result X Fault → Marks → Result Ctx Fault
@@ -46,7 +55,7 @@ abbrev pub binding : (i p d : ℕ) → Maybe ℕ → (j : ℕ) → Body → List
 binding i p d c j e τs H =
     then (ask q.Room i p (nat_le (length H + j) 16)) λ _.
     then (ask q.DepthRule i p (depth_holds d c (is_tail (length H) j e))) λ _.
-    Ok (H ++ map Has τs)
+    Ok (H ++ map has τs)
 
 -- the whole call: the marks of what follows it
 abbrev pub entering : Program → (i p d : ℕ) → Ctx → Operation → List Operand → (j : ℕ) → Body → Result Ctx Fault
@@ -61,10 +70,8 @@ pub record Walks (w : Walk) (P : Program) (F : Function) : Type 0 where
   pub stands : Stands w.table P
   pub bytes : w.window.bytes.now ≡ take (length w.window.bytes.now) w.table.program.now
   pub function : get_elem? P.functions w.window.function ≡ some F
-  pub depth : w.depth ≡ F.depth
-  pub results : items w.results ≡ F.results
+  pub says : Says w.table.program.now w.window.function F w.record
 
--- the first alias among the types of results: what the question about them answers, from wherever they stand
-abbrev pub Aliased : List Ty → Option ℕ → Type 0
-Aliased τs None = (i p : ℕ) → no_alias i p τs ≡ Ok tt
-Aliased τs (Some k) = (k < length τs) × ((i p : ℕ) → no_alias i p τs ≡ denied q.NoAliasResult i (p + k))
+-- what a call may answer for each of some functions, by its number, is what asks says
+abbrev pub Answers : (ℕ → Result (Unit {0}) Fault → Type 0) → (asks : ℕ → Function → Result (Unit {0}) Fault) → List Function → Type 0
+Answers post asks Fs = (k : ℕ) (F : Function) (a : Result (Unit {0}) Fault) → get_elem? Fs k ≡ some F → post k a → a ≡ asks k F

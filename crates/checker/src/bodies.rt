@@ -25,7 +25,7 @@ impl Walk<'_> {
                 Ok(next)
             }
             Node::Branch { value, .. } => {
-                marks.test(self.window.function, value)?;
+                self.test(marks, value)?;
                 let before = *marks;
                 let second = self.body(marks, ifs + 1, next)?;
                 *marks = before;

@@ -1,12 +1,8 @@
 //! Questions about single functions.
-ghost use Rattle.std.specs.Prelude.{◌≡◌, ◌<◌, ◌&&◌, slice_index};
-ghost use Rattle.std.proofs.Math.Option.{some};
-ghost use Rattle.std.proofs.Math.ListN.{get_elem?};
-ghost use Rattle.reader.specs.Syntax.{Function, Program};
+ghost use Rattle.std.specs.Prelude.{◌≡◌, not, ◌&&◌, ◌||◌, nat_le, position};
 ghost use Rattle.rows.specs.Rows.{items};
-ghost use Rattle.records.specs.Tables.{Stands};
-ghost use Rattle.typing.specs.Layers.{empty, outside, inside};
-ghost use Rattle.checker.specs.Walks.{Aliased};
+ghost use Rattle.records.specs.Tables.{ForFunction};
+ghost use Rattle.typing.specs.Layers.{empty, unlent, outside, inside};
 
 use crate::marks::Marks;
 use crate::walks::Walk;
@@ -16,53 +12,33 @@ use reader::types::Ty;
 use reader::windows::Window;
 use records::tables::{Record, Table};
 use rows::row::Row;
-use typing::entries::Entry;
 
 /// The index of the first alias among types.
 fn first_alias(types: &Row<Ty, 8>) -> Option<usize>
-    ensures { Aliased (items types.now) result }
+    ensures { result ≡ position (λ τ. not (unlent τ)) (items types.now) }
 {
-    for i in 0..types.len() {
-        if let Some(ty) = types.get(i) {
-            if let Ty::Alias = ty {
-                return Some(i);
-            }
-        }
-    }
-    None
+    types.as_slice().iter().position(|ty| *ty == Ty::Alias)
 }
 
-/// The place of a function's record.
-fn place_of(table: &Table, function: u8) -> usize
-    ensures { function < 64 → result ≡ slice_index table.now.places function }
+/// Whether a function that is a thread's takes and gives nothing.
+fn is_ready(threads: u8, function: u8, found: &Record) -> bool
+    ensures { result ≡ (nat_le threads function || (empty (items found.now.params) && empty (items found.now.results))) }
 {
-    if function < 64 {
-        table.places[usize::from(function)]
-    } else {
-        0
-    }
-}
-
-/// Whether a record's function takes and gives nothing.
-fn is_bare(found: &Record) -> bool
-    ensures { result ≡ (empty (items found.now.params) && empty (items found.now.results)) }
-{
-    found.params.len() == 0 && found.results.len() == 0
+    threads <= function || found.params.is_empty() && found.results.is_empty()
 }
 
 /// Layer 2 of a function: a thread's takes and gives nothing, and none gives an alias.
 pub(crate) fn outside(table: &Table, function: u8) -> Result<(), Fault>
-    ensures { (P : Program) (F : Function) → Stands table.now P → get_elem? P.functions function ≡ some F → result ≡ outside P function F }
+    ensures { ForFunction table.now function (λ P F. result ≡ outside P function F) }
 {
+    let Some(place) = table.places.get(usize::from(function)) else {
+        return Ok(());
+    };
     let Some(record) = table.record(function) else {
         return Ok(());
     };
-    if function < table.header.threads && !is_bare(&record) {
-        return Err(Fault::new(
-            Question::ThreadSignature,
-            function,
-            place_of(table, function),
-        ));
+    if !is_ready(table.header.threads, function, &record) {
+        return Err(Fault::new(Question::ThreadSignature, function, place));
     }
     match first_alias(&record.results) {
         None => Ok(()),
@@ -75,7 +51,7 @@ pub(crate) fn outside(table: &Table, function: u8) -> Result<(), Fault>
 
 /// Layer 3 of a function: its body, from its parameters.
 pub(crate) fn inside(table: &Table, function: u8) -> Result<(), Fault>
-    ensures { (P : Program) (F : Function) → Stands table.now P → get_elem? P.functions function ≡ some F → result ≡ inside P function F }
+    ensures { ForFunction table.now function (λ P F. result ≡ inside P function F) }
 {
     let Some(record) = table.record(function) else {
         return Ok(());
@@ -88,11 +64,10 @@ pub(crate) fn inside(table: &Table, function: u8) -> Result<(), Fault>
     let walk = Walk {
         table: *table,
         window,
-        depth: record.depth,
-        results: record.results,
+        record,
     };
     let mut marks = Marks {
-        entries: Row::new(Entry::Absent),
+        entries: Row::new(None),
     };
     marks.bind_all(&record.params);
     walk.body(&mut marks, 0, record.body)?;

@@ -1,31 +1,22 @@
 //! Layers 2 and 3 of all functions, and the whole check.
-ghost use Rattle.std.specs.Prelude.{◌≡◌, ◌↔◌, Ok};
-ghost use Rattle.reader.specs.Syntax.{Program};
+ghost use Rattle.std.specs.Prelude.{◌≡◌, ◌↔◌, List, length, Ok};
+ghost use Rattle.reader.specs.Syntax.{Function, Program};
 ghost use Rattle.reader.specs.Encoding.{Writes};
-ghost use Rattle.records.specs.Tables.{Stands};
 ghost use Rattle.typing.specs.Typing.{Accepted};
-ghost use Rattle.typing.specs.Layers.{outside, inside, each, verdict};
+ghost use Rattle.typing.specs.Layers.{each, verdict};
+ghost use Rattle.checker.specs.Walks.{Answers};
 
 use crate::functions::{inside, outside};
 use reader::faults::Fault;
 use records::tables::Table;
 
-/// Puts layer 2 to every function.
-fn signatures(table: &Table) -> Result<(), Fault>
-    ensures { (P : Program) → Stands table.now P → result ≡ each (outside P) 0 P.functions }
+/// Puts the questions of a layer to each function, up to the first fault.
+fn each<A: Fn(u8) -> Result<(), Fault>>(functions: u8, ask: A) -> Result<(), Fault>
+    requires { A.IsAlwaysCallable ask }
+    ensures { (asks : _) (Fs : List Function) → length Fs ≡ functions → Answers (A.post ask) asks Fs → result ≡ each asks 0 Fs }
 {
-    for function in 0..table.header.functions {
-        outside(table, function)?;
-    }
-    Ok(())
-}
-
-/// Puts layer 3 to every function.
-fn bodies(table: &Table) -> Result<(), Fault>
-    ensures { (P : Program) → Stands table.now P → result ≡ each (inside P) 0 P.functions }
-{
-    for function in 0..table.header.functions {
-        inside(table, function)?;
+    for function in 0..functions {
+        ask(function)?;
     }
     Ok(())
 }
@@ -37,6 +28,6 @@ pub fn check(program: &[u8]) -> Result<(), Fault>
     ensures granted { (result ≡ Ok tt) ↔ ((P : Program) × Writes P program.now × Accepted P) }
 {
     let table = Table::of(program)?;
-    signatures(&table)?;
-    bodies(&table)
+    each(table.header.functions, |function| outside(&table, function))?;
+    each(table.header.functions, |function| inside(&table, function))
 }

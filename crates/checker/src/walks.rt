@@ -1,19 +1,30 @@
 //! What a walk over a body needs to know.
+ghost use Rattle.std.specs.Prelude.{◌≡◌};
+ghost use Rattle.reader.specs.Faults.{fault};
+
+use reader::faults::Fault;
 use reader::operations::Operation;
-use reader::types::Ty;
+use reader::questions::Question;
 use reader::values::Values;
 use reader::windows::Window;
-use records::tables::Table;
-use rows::row::Row;
+use records::tables::{Record, Table};
 
 /// The function whose body is walked, in its program.
 #[derive(Clone, Copy)]
 pub(crate) struct Walk<'a> {
     pub(crate) table: Table<'a>,
-    /// The record of the function.
+    /// The bytes of the function's record.
     pub(crate) window: Window<'a>,
-    pub(crate) depth: u8,
-    pub(crate) results: Row<Ty, 8>,
+    pub(crate) record: Record,
+}
+
+impl Walk<'_> {
+    /// The denial of a question at a place of the body.
+    pub(crate) fn fault(&self, question: Question, place: usize) -> Fault
+        ensures { result ≡ fault question self.now.window.function place }
+    {
+        Fault::new(question, self.window.function, place)
+    }
 }
 
 /// A call node, and the place of the node behind it.

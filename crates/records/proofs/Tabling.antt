@@ -1,10 +1,9 @@
 -- A table and the program that it stands for.
-use Rattle.std.proofs.Common.{◌≡◌, ℕ, zero, suc, ◌+◌, ◌<◌, ◌≤◌, ◌&&◌, leb, List, [], ◌∷◌, length, get_or, take, Ok, Err, Option, Result, sym, refl, ap, ◌∙◌, subst, arith}
+use Rattle.std.proofs.Common.{◌≡◌, ℕ, zero, suc, ◌+◌, ◌≤◌, ◌&&◌, leb, List, [], ◌∷◌, length, Ok, Err, Option, Result, sym, refl, ap, ◌∙◌, subst, arith, MatchOption, Some}
 use mathlib.Core.Option.{none, some}
 use lib.ListN.{get_elem?}
 use Rattle.std.specs.Result.{result_ok}
 use Rattle.std.proofs.lemmas.Bool.{leb-true, and_parts}
-use Rattle.std.proofs.lemmas.List.{get_or-take}
 use Rattle.reader.specs.declared.questions.Question.{Question}
 use Rattle.reader.specs.declared.questions.Question.TheVariants as q
 use Rattle.reader.specs.declared.faults.Fault.{Fault}
@@ -18,6 +17,7 @@ use Rattle.std.proofs.lemmas.Result.{IfOk-at_ok}
 use Rattle.reader.proofs.Lists.{range_after}
 use Rattle.reader.proofs.Rows.{records-long}
 use Rattle.reader.proofs.WritesProgram.{ended_ok}
+use Rattle.std.specs.Prelude.{slice_get}
 use Rattle.records.specs.declared.tables.Record.{Record}
 use Rattle.records.specs.Tables.{places, Recorded}
 use Rattle.records.specs.Glances.{Glance, glance, glanced, glance_at, starts}
@@ -82,8 +82,8 @@ pub program-parts : (b : List ℕ) (P : Program) (i : ℕ) (F : Function) → re
 program-parts b P i F h k = let f = program-found b P i F h k in (record_parts b (length b) i F.place (F, f.end) f.read).0
 
 -- the counts that layer 1 answers, and the places that the lengths lead to, are those of the program
-pub tabled : (b : List ℕ) (h : Header) (ps : List ℕ) → Ok h ≡ headed (reading b) → take h.functions ps ≡ starts b (length b) h.functions 6
-    → (P : Program) × (reading b ≡ Ok P) × (h ≡ header P) × (take h.functions ps ≡ places P.functions)
+pub tabled : (b : List ℕ) (h : Header) (ps : List ℕ) → Ok h ≡ headed (reading b) → ps ≡ starts b (length b) h.functions 6
+    → (P : Program) × (reading b ≡ Ok P) × (h ≡ header P) × (ps ≡ places P.functions)
 tabled b h ps k s =
     let p = then_ok (reading b) (λ Q. Ok (header Q)) h (sym k) in
     let is = ok_same (header p.0) h p.2 in
@@ -95,29 +95,25 @@ functions-most b h k =
     let p = then_ok (reading b) (λ Q. Ok (header Q)) h (sym k) in
     omega (arith, ap (λ (g : Header). g.functions) (ok_same (header p.0) h p.2), (program-records b p.0 p.1).most)
 
-pub headed_err : (r : Result Program Fault) (e : Fault) → Err e ≡ headed r → r ≡ Err e
-headed_err (Ok P) e h = absurd (let z : ◌≡◌ {A = ℕ} 0 1 = cc in omega arith)
-headed_err (Err x) e h = let m : x ≡ e = cc in ap Err m
+-- what stands among the places for function i: the place of its record, if there is such a function
+abbrev pub PlaceOf : List Function → ℕ → Option ℕ → Type 0
+PlaceOf Fs i o = MatchOption o (get_elem? Fs i ≡ none) (λ p. (F : Function) × (get_elem? Fs i ≡ some F) × (p ≡ F.place))
 
--- no function, no record
-pub get_elem_past : (Fs : List Function) (i : ℕ) → length Fs ≤ i → get_elem? Fs i ≡ none
-get_elem_past [] i l = refl
-get_elem_past (F ∷ Fs) zero l = absurd (omega arith)
-get_elem_past (F ∷ Fs) (suc i) l = get_elem_past Fs i (omega arith)
-
-pub get_elem_place : (Fs : List Function) (i : ℕ) → i < length Fs → (F : Function) × (get_elem? Fs i ≡ some F) × (get_or (places Fs) i 0 ≡ F.place)
-get_elem_place [] i l = absurd (omega arith)
-get_elem_place (F ∷ Fs) zero l = (F, refl, refl)
-get_elem_place (F ∷ Fs) (suc i) l = get_elem_place Fs i (omega arith)
+pub place_of : (Fs : List Function) (i : ℕ) (o : Option ℕ) → o ≡ slice_get (places Fs) i → PlaceOf Fs i o
+place_of Fs i o h = subst (PlaceOf Fs i) (sym h) (at Fs i)
+  where
+    at : (Fs : List Function) (i : ℕ) → PlaceOf Fs i (slice_get (places Fs) i)
+    at [] i = refl
+    at (F ∷ Fs) zero = (F, refl, refl)
+    at (F ∷ Fs) (suc i) = at Fs i
 
 -- what is read where the record of a function stands is what it says
-pub recorded : (b : List ℕ) (P : Program) (n i j : ℕ) (ps : List ℕ) (r : Result Record Fault) (o : Option Record) → reading b ≡ Ok P → n ≡ length P.functions → take n ps ≡ places P.functions
-    → i < n → j ≡ i → glanced r ≡ glance_at b (length b) i (get_or ps j 0) → o ≡ result_ok r → Recorded b P i o
-recorded b P n i j ps r o h long standing l at k is =
-    let f = get_elem_place P.functions i (omega arith) in
+pub recorded : (b : List ℕ) (P : Program) (i p : ℕ) (r : Result Record Fault) → reading b ≡ Ok P → Some p ≡ slice_get (places P.functions) i
+    → glanced r ≡ glance_at b (length b) i p → Recorded b P i (result_ok r)
+recorded b P i p r h at k =
+    let f = place_of P.functions i (Some p) at in
     let s = program-parts b P i f.0 h f.1 in
-    let place : get_or ps j 0 ≡ f.0.place = ap (λ y. get_or ps y 0) at ∙ sym (get_or-take n ps i 0 l) ∙ ap (λ qs. get_or qs i 0) standing ∙ f.2 in
-    subst (Recorded b P i) (sym is) (said r f.0 f.1 s (k ∙ ap (glance_at b (length b) i) place ∙ glance_of b (length b) i f.0.place f.0 s))
+    said r f.0 f.1 s (k ∙ ap (glance_at b (length b) i) f.2 ∙ glance_of b (length b) i f.0.place f.0 s)
   where
     said : (r : Result Record Fault) (F : Function) → get_elem? P.functions i ≡ some F → (s : Parts b (length b) i F.place F)
         → glanced r ≡ Ok (record { depth = F.depth; params = F.params; results = F.results; body = s.results; end = s.end }) → Recorded b P i (result_ok r)

@@ -1,5 +1,5 @@
 -- What a table of records says of its program.
-use Rattle.std.specs.Prelude.{◌≡◌, ℕ, ◌≤◌, List, [], ◌∷◌, length, take, Some, None, Ok, Err, Option, Result}
+use Rattle.std.specs.Prelude.{◌≡◌, ℕ, ◌≤◌, List, [], ◌∷◌, length, Some, None, Ok, Err, Option, Result}
 use mathlib.Core.Option.{none, some}
 use Rattle.std.proofs.Math.ListN.{get_elem?}
 use Rattle.reader.specs.declared.faults.Fault.{Fault}
@@ -22,7 +22,15 @@ places (F ∷ Fs) = F.place ∷ places Fs
 pub record Stands (t : Table) (P : Program) : Type 0 where
   pub reads : reading t.program.now ≡ Ok P
   pub counts : t.header ≡ header P
-  pub standing : take t.header.functions t.places ≡ places P.functions
+  pub standing : items t.places ≡ places P.functions
+
+-- a fact about the program that a table stands for, if it stands for one
+abbrev pub ForProgram : Table → (Program → Type 0) → Type 0
+ForProgram t fact = (P : Program) → Stands t P → fact P
+
+-- and about function i of that program, if it has one
+abbrev pub ForFunction : Table → (i : ℕ) → (Program → Function → Type 0) → Type 0
+ForFunction t i fact = ForProgram t (λ P. (F : Function) → get_elem? P.functions i ≡ some F → fact P F)
 
 -- the table of bytes: one that stands for the program they read as, or the first fault of layer 1
 abbrev pub Tabled : List ℕ → Result Table Fault → Type 0

@@ -8,12 +8,11 @@ pub mod making;
 pub mod records;
 
 /// The counts of a program that reads, and the place of each of its records.
-/// The places are as many as there are functions; what stands after them means nothing.
 #[derive(Clone, Copy)]
 pub struct Table<'a> {
     pub program: &'a [u8],
     pub header: Header,
-    pub places: [usize; 64],
+    pub places: Row<usize, 64>,
 }
 
 /// What a function's record says before its body, and where its body stands.

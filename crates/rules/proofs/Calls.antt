@@ -7,8 +7,7 @@ use Rattle.reader.specs.declared.types.Ty.{Ty}
 use Rattle.reader.specs.Syntax.{Function, Program}
 use Rattle.reader.specs.Programs.{reading}
 use Rattle.reader.proofs.Results.{ok_same}
-use Rattle.typing.specs.declared.entries.Entry.TheVariants.{Has as has}
-use Rattle.typing.specs.Typing.{Accepted, Every, every_end, every_more}
+use Rattle.typing.specs.Typing.{has, Accepted, Every, every_end, every_more}
 use Rattle.typing.specs.Layers.{verdict}
 use Rattle.typing.proofs.Whole.{bytes_decided}
 use Rattle.store.specs.declared.name.Name.{Name}

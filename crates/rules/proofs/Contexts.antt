@@ -7,9 +7,7 @@ use Rattle.reader.specs.declared.values.Value.TheVariants as v
 use Rattle.reader.specs.declared.values.Operand.{Operand}
 use Rattle.reader.specs.declared.types.Ty.{Ty}
 use Rattle.reader.specs.declared.types.Ty.TheVariants.{Int as int, Bool as bool, Packet as packet, Alias as alias}
-use Rattle.typing.specs.declared.entries.Entry.{Entry}
-use Rattle.typing.specs.declared.entries.Entry.TheVariants.{Absent as absent, Has as has}
-use Rattle.typing.specs.Typing.{Ctx, Unowned, unowned_int, unowned_bool, unowned_alias}
+use Rattle.typing.specs.Typing.{Entry, absent, has, Ctx, Unowned, unowned_int, unowned_bool, unowned_alias}
 use Rattle.typing.specs.Marks.{note, all_spent}
 use Rattle.typing.proofs.Given.{At, at_here, at_there, use_plain, use_lent, use_owner, UseAt, use_here, use_there, Given, given_integer, given_truth, given_variable, Uses, uses_end, uses_more}
 use Rattle.typing.proofs.Keeping.{uses_keep}

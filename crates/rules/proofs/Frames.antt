@@ -11,10 +11,8 @@ use Rattle.reader.specs.declared.values.Operand.{Operand}
 use Rattle.reader.specs.declared.operations.Operation.{Operation}
 use Rattle.reader.specs.declared.operations.Operation.TheVariants as o
 use Rattle.reader.specs.Syntax.{Body, return, branch, call, Function, Program}
-use Rattle.typing.specs.declared.entries.Entry.{Entry}
-use Rattle.typing.specs.declared.entries.Entry.TheVariants.{Absent as absent, Has as has}
 use Rattle.typing.specs.Signatures.{Signature, ◌⇒◌, signature, callee_depth, of_function, depth_of}
-use Rattle.typing.specs.Typing.{Ctx, Every, every_end, every_more, Unlent, ◌∣◌⊢ᵉ◌⦂◌, Room, Deep, Tail, tail, Consecutive, consecutive_end, consecutive_more, EachFunction, Accepted}
+use Rattle.typing.specs.Typing.{Entry, absent, has, Ctx, Every, every_end, every_more, Unlent, ◌∣◌⊢ᵉ◌⦂◌, Room, Deep, Tail, tail, Consecutive, consecutive_end, consecutive_more, EachFunction, Accepted}
 use Rattle.typing.proofs.Given.{uses-length}
 use Rattle.typing.proofs.Inversion.{by_node}
 use Rattle.typing.proofs.Whole.{typed-unlent}

@@ -7,8 +7,7 @@ use Rattle.reader.specs.declared.types.Ty.TheVariants.{Packet as packet}
 use Rattle.reader.specs.declared.values.Value.{Value}
 use Rattle.reader.specs.declared.values.Operand.{Operand}
 use Rattle.reader.specs.declared.operations.Operation.{Operation}
-use Rattle.typing.specs.declared.entries.Entry.TheVariants.{Absent as absent, Has as has}
-use Rattle.typing.specs.Typing.{Ctx, Every, every_more, Unlent}
+use Rattle.typing.specs.Typing.{absent, has, Ctx, Every, every_more, Unlent}
 use Rattle.typing.proofs.Whole.{typed-unlent}
 use Rattle.store.specs.declared.name.Name.{Name}
 use Rattle.rules.specs.State.{Held, nothing, owner, alias, Frame, frame, Thread, frames, State, Effect}

@@ -11,10 +11,8 @@ use Rattle.reader.specs.declared.values.Operand.{Operand}
 use Rattle.reader.specs.declared.operations.Operation.{Operation}
 use Rattle.reader.specs.declared.operations.Operation.TheVariants as o
 use Rattle.reader.specs.Syntax.{Body, return, branch, call, Function, Program}
-use Rattle.typing.specs.declared.entries.Entry.{Entry}
-use Rattle.typing.specs.declared.entries.Entry.TheVariants.{Has as has}
 use Rattle.typing.specs.Signatures.{Signature, ◌⇒◌, signature, of_function}
-use Rattle.typing.specs.Typing.{Ctx, Tail}
+use Rattle.typing.specs.Typing.{Entry, has, Ctx, Tail}
 use Rattle.typing.specs.Marks.{is_tail}
 use Rattle.typing.proofs.Tests.{tail-sound, tail_complete}
 use Rattle.store.specs.declared.name.Name.{Name}

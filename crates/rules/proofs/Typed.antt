@@ -7,9 +7,7 @@ use Rattle.reader.specs.declared.operations.Operation.{Operation}
 use Rattle.reader.specs.declared.types.Ty.{Ty}
 use Rattle.reader.specs.declared.types.Ty.TheVariants.{Int as int, Bool as bool, Packet as packet, Alias as alias}
 use Rattle.typing.specs.Signatures.{Signature, ◌⇒◌, signature, provided}
-use Rattle.typing.specs.declared.entries.Entry.{Entry}
-use Rattle.typing.specs.declared.entries.Entry.TheVariants.{Absent as absent, Has as has}
-use Rattle.typing.specs.Typing.{Ctx}
+use Rattle.typing.specs.Typing.{Entry, absent, has, Ctx}
 use Rattle.store.specs.declared.name.Name.{Name}
 use Rattle.rules.specs.State.{Held, nothing, integer, truth, owner, State, Effect}
 use Rattle.rules.specs.State as held

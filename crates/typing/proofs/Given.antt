@@ -1,5 +1,6 @@
 -- What it means that values are given, and that the questions put to them say just that.
 use Rattle.std.proofs.Common.{◌≡◌, ℕ, zero, suc, ◌<◌, Bool, T, List, [], ◌∷◌, length, get_or, Ok, sym, refl, ap, ◌∙◌, subst, le_of_suc-le-suc, not-suc-le-zero, arith, ltb→lt, lt→ltb, T_not}
+use Rattle.std.proofs.lemmas.Grind.{common_steps}
 use native.Mathlib.Nat.{suc_inj}
 use Rattle.reader.specs.declared.values.Value.{Value}
 use Rattle.reader.specs.declared.values.Operand.{Operand}
@@ -87,16 +88,10 @@ use-fits use_lent = (tt, tt)
 use-fits use_owner = (tt, tt)
 
 spend-here : (ρ τ : Ty) (H : Ctx) → spend ρ (variable zero) (has τ ∷ H) ≡ after ρ τ ∷ H
-spend-here int τ H = refl
-spend-here bool τ H = refl
-spend-here packet τ H = refl
-spend-here alias τ H = refl
+spend-here ρ τ H = grind (arith, common_steps)
 
 spend-there : (ρ : Ty) (x : ℕ) (h : Entry) (H : Ctx) → spend ρ (variable (suc x)) (h ∷ H) ≡ h ∷ spend ρ (variable x) H
-spend-there int x h H = refl
-spend-there bool x h H = refl
-spend-there packet x h H = refl
-spend-there alias x h H = refl
+spend-there ρ x h H = grind (arith, common_steps)
 
 at-use : {ρ : Ty} {x : ℕ} {e : Entry} {H : Ctx} → At x e H → T (fitting e ρ) → UseAt ρ x H (spend ρ (variable x) H)
 at-use (at_here {e = absent}) t = absurd t

@@ -1,60 +1,40 @@
 -- The tests that answer questions, and what they test.
-use Rattle.std.proofs.Common.{◌≡◌, ℕ, zero, suc, ◌<◌, ◌≤◌, Bool, true, false, ◌&&◌, ◌||◌, T, eqb, ◌⊎◌, List, [], ◌∷◌, ◌++◌, sym, refl, ap, subst, inl, inr, arith, le→leb, eqb→eq, ltb→lt, lt→ltb, leb→le}
+use Rattle.std.proofs.Common.{◌≡◌, ℕ, zero, suc, ◌<◌, ◌≤◌, Bool, true, false, ◌&&◌, T, eqb, ◌⊎◌, List, [], ◌∷◌, ◌++◌, sym, refl, subst, arith, le→leb, ltb→lt, lt→ltb, leb→le}
 use mathlib.Core.Option.{Option, none, some, some-injective, none-ne-some}
 use lib.Dec.{eqb_refl}
 use Rattle.reader.specs.declared.values.Value.{Value}
 use Rattle.reader.specs.declared.values.Operand.{Operand}
 use Rattle.reader.specs.Syntax.{Body, return, branch, call}
-use Rattle.typing.specs.Typing.{integer, truth, variable, Consecutive, consecutive_end, consecutive_more, Tail, tail}
+use Rattle.typing.specs.Typing.{variable, Consecutive, consecutive_end, consecutive_more, Tail, tail}
 use Rattle.typing.specs.Marks.{member, is_variable, consecutive, is_tail, deep_enough, depth_holds}
 
 pub and_left : (a b : Bool) → T (a && b) → T a
-and_left true b t = tt
-and_left false b t = t
+and_left a b t = grind arith
 
 pub and_right : (a b : Bool) → T (a && b) → T b
-and_right true b t = t
-and_right false b t = absurd t
+and_right a b t = grind arith
 
 pub and_both : (a b : Bool) → T a → T b → T (a && b)
-and_both true b s t = t
-and_both false b s t = absurd s
-
-pub or_left : (a b : Bool) → T a → T (a || b)
-or_left true b t = tt
-or_left false b t = absurd t
-
-pub or_right : (a b : Bool) → T b → T (a || b)
-or_right true b t = tt
-or_right false b t = t
-
-pub or_case : {A : Type 0} (a b : Bool) → (T a → A) → (T b → A) → T (a || b) → A
-or_case true b f g t = f t
-or_case false b f g t = g t
+and_both a b s t = grind arith
 
 pub eq→eqb : {m n : ℕ} → m ≡ n → T (eqb m n)
 eq→eqb {m} e = subst (λ k. T (eqb m k)) e (eqb_refl m)
 
 -- one more name after others
 pub member-last : (x : ℕ) (ys : List ℕ) → T (member x (ys ++ (x ∷ [])))
-member-last x [] = or_left (eqb x x) false (eqb_refl x)
-member-last x (y ∷ ys) = or_right (eqb x y) (member x (ys ++ (x ∷ []))) (member-last x ys)
+member-last x [] = grind arith
+member-last x (y ∷ ys) = grind (arith, member-last x ys)
 
 pub member_more : (y x : ℕ) (ys : List ℕ) → T (member y ys) → T (member y (ys ++ (x ∷ [])))
 member_more y x [] t = absurd t
-member_more y x (z ∷ ys) t =
-    or_case (eqb y z) (member y ys) (or_left (eqb y z) _) (λ m. or_right (eqb y z) _ (member_more y x ys m)) t
+member_more y x (z ∷ ys) t = grind (arith, member_more y x ys)
 
 pub member_split : (y x : ℕ) (ys : List ℕ) → T (member y (ys ++ (x ∷ []))) → T (member y ys) ⊎ (y ≡ x)
-member_split y x [] t = or_case (eqb y x) false (λ e. inr (eqb→eq y x e)) (λ f. absurd f) t
-member_split y x (z ∷ ys) t =
-    or_case (eqb y z) (member y (ys ++ (x ∷ []))) (λ e. inl (or_left (eqb y z) (member y ys) e))
-    (λ m. elim (member_split y x ys m) [ inl n ↦ inl (or_right (eqb y z) (member y ys) n) | inr e ↦ inr e ]) t
+member_split y x [] t = grind arith
+member_split y x (z ∷ ys) t = grind (arith, member_split y x ys)
 
 is_variable_sound : (n : ℕ) (v : Value) → T (is_variable n v) → v ≡ variable n
-is_variable_sound n (integer m) t = absurd t
-is_variable_sound n (truth b) t = absurd t
-is_variable_sound n (variable x) t = ap variable (eqb→eq x n t)
+is_variable_sound n v t = grind arith
 
 pub consecutive-sound : (n j : ℕ) (vs : List Operand) → T (consecutive n j vs) → Consecutive n j vs
 consecutive-sound n zero [] t = consecutive_end

@@ -1,7 +1,6 @@
 -- Layers 2 and 3 of a whole program, and all layers of bytes.
-use Rattle.std.proofs.Common.{◌≡◌, ℕ, zero, suc, ◌+◌, ◌<◌, ◌≤◌, Bool, true, false, not, ◌&&◌, ◌||◌, T, leb, ◌↔◌, List, [], ◌∷◌, map, length, Ok, Result, sym, refl, subst, add-zero, zero-add, arith, leb→le}
+use Rattle.std.proofs.Common.{◌≡◌, ℕ, zero, suc, ◌+◌, ◌<◌, T, ◌↔◌, List, [], ◌∷◌, map, length, Ok, Result, sym, refl, subst, add-zero, zero-add, arith}
 use mathlib.Core.Option.{some, some-injective, none-ne-some}
-use lib.Dec.{nleb→lt}
 use lib.ListN.{length-map, get_elem?}
 use Rattle.reader.specs.declared.faults.Fault.{Fault}
 use Rattle.reader.specs.Syntax.{Body, Function, Program}
@@ -10,10 +9,9 @@ use Rattle.reader.proofs.Results.{then_ok, go}
 use Rattle.reader.proofs.Law.{reads_back}
 use Rattle.typing.specs.Signatures.{Ty, int, bool, packet, alias}
 use Rattle.typing.specs.Typing.{Entry, has, Ctx, Unlent, unlent_int, unlent_bool, unlent_packet, Every, every_end, every_more, ◌∣◌⊢ᵉ◌⦂◌, rule_call, rule_return, rule_if, rule_weak, Room, Deep, EachFunction, Accepted}
-use Rattle.typing.specs.Layers.{empty, unlent, no_alias, results_place, thread_ready, outside, inside, each, layers}
+use Rattle.typing.specs.Layers.{unlent, no_alias, results_place, thread_ready, outside, inside, each, layers}
 use Rattle.typing.specs.Theorems.{ProgramsDecided, BytesDecided, EncodingsDecided}
 use Rattle.typing.proofs.Answered.{asked_ok, ok_asked}
-use Rattle.typing.proofs.Tests.{and_left, and_right, and_both, or_case}
 use Rattle.typing.proofs.Bodies.{bodies_decided}
 
 -- every path ends in a return, which gives no alias
@@ -66,28 +64,14 @@ no_alias_complete i p (every_more unlent_int u) = no_alias_complete i (p + 1) u
 no_alias_complete i p (every_more unlent_bool u) = no_alias_complete i (p + 1) u
 no_alias_complete i p (every_more unlent_packet u) = no_alias_complete i (p + 1) u
 
-is-empty : (τs : List Ty) → T (empty τs) → τs ≡ []
-is-empty [] t = refl
-is-empty (τ ∷ τs) t = absurd t
-
 abbrev ThreadReady : Program → ℕ → Function → Type 0
 ThreadReady P i F = i < P.threads → (F.params ≡ []) × (F.results ≡ [])
 
 thread-sound : (P : Program) (i : ℕ) (F : Function) → T (thread_ready P i F) → ThreadReady P i F
-thread-sound P i F t l =
-    or_case (leb P.threads i) (empty F.params && empty F.results)
-    (λ s. let g : P.threads ≤ i = leb→le P.threads i s in absurd (omega arith))
-    (λ s. (is-empty F.params (and_left (empty F.params) (empty F.results) s), is-empty F.results (and_right (empty F.params) (empty F.results) s)))
-    t
+thread-sound P i F t l = (grind arith, grind arith)
 
 thread_complete : (P : Program) (i : ℕ) (F : Function) → ThreadReady P i F → T (thread_ready P i F)
-thread_complete P i F a = decided (leb P.threads i) (nleb→lt P.threads i)
-  where
-    decided : (b : Bool) → (T (not b) → i < P.threads) → T (b || (empty F.params && empty F.results))
-    decided true l = tt
-    decided false l =
-        let (p, r) = a (l tt) in
-        and_both (empty F.params) (empty F.results) (subst (λ τs. T (empty τs)) (sym p) tt) (subst (λ τs. T (empty τs)) (sym r) tt)
+thread_complete P i F a = grind arith
 
 -- layer 2 of a function
 outside_decided : (P : Program) (i : ℕ) (F : Function) → (outside P i F ≡ Ok tt) ↔ (ThreadReady P i F × Every Unlent F.results)

@@ -1,6 +1,7 @@
 -- What is asked of a body, question by question, and the first no.
 -- i is the function that a fault carries, p a place. The marks H say what is known of each bound variable: a spent owner is absent.
-use Rattle.std.specs.Prelude.{ℕ, zero, suc, ◌+◌, Bool, true, false, not, ◌&&◌, ◌||◌, List, [], ◌∷◌, ◌++◌, map, length, Ok, Result, ◌==◌, nat_le, nat_lt, slice_index_or, slice_set}
+use Rattle.std.specs.Prelude.{ℕ, zero, suc, ◌+◌, Bool, true, false, not, ◌&&◌, List, [], ◌∷◌, ◌++◌, map, length, Ok, Result, ◌==◌, nat_le, nat_lt, slice_index_or, slice_set}
+use Rattle.std.specs.List.{list_any, list_all}
 use Rattle.std.proofs.Math.Option.{Option, none, some}
 use Rattle.reader.specs.declared.questions.Question.{Question}
 use Rattle.reader.specs.declared.questions.Question.TheVariants as q
@@ -49,8 +50,7 @@ fitting (has τ) wanted = fits τ wanted
 
 -- the variables that the earlier values of a list named
 abbrev pub member : ℕ → List ℕ → Bool
-member x [] = false
-member x (y ∷ ys) = x == y || member x ys
+member x named = list_any (λ y. y == x) named
 
 abbrev pub names : Value → List ℕ → Bool
 names (integer n) named = false
@@ -108,8 +108,7 @@ owner absent = false
 owner (has τ) = elim τ [ int ↦ false | bool ↦ false | packet ↦ true | alias ↦ false ]
 
 abbrev pub all_spent : Ctx → Bool
-all_spent [] = true
-all_spent (e ∷ H) = not (owner e) && all_spent H
+all_spent H = list_all (λ e. not (owner e)) H
 
 -- are the values the j variables from n on, in order?
 abbrev pub is_variable : ℕ → Value → Bool

@@ -1,6 +1,6 @@
 -- The type system: contexts, the rules, the depth rule and the limits, and which programs are accepted.
 -- Γ ⊢ e : τs says that e gives values of the types τs and needs of the bound variables just what the context Γ has.
-use Rattle.std.specs.Prelude.{◌≡◌, ℕ, zero, suc, ◌+◌, ◌<◌, ◌≤◌, Bool, List, [], ◌∷◌, ◌++◌, map, length}
+use Rattle.std.specs.Prelude.{◌≡◌, ℕ, zero, suc, ◌+◌, ◌<◌, ◌≤◌, Bool, List, [], ◌∷◌, ◌++◌, map, length, Option}
 use Rattle.std.proofs.Math.Option.{some}
 use Rattle.std.proofs.Math.ListN.{get_elem?}
 use Rattle.reader.specs.declared.values.Value.{Value}
@@ -9,11 +9,14 @@ use Rattle.reader.specs.declared.operations.Operation.{Operation}
 use Rattle.reader.specs.Syntax.{Body, return, branch, call, Function, Program}
 use Rattle.typing.specs.Signatures.{Ty, int, bool, packet, alias, ◌⇒◌, signature, callee_depth}
 pub use Rattle.reader.specs.declared.values.Value.TheVariants.{Integer as integer, Truth as truth, Variable as variable}
-pub use Rattle.typing.specs.declared.entries.Entry.{Entry}
-pub use Rattle.typing.specs.declared.entries.Entry.TheVariants.{Absent as absent, Has as has}
+pub use Rattle.std.specs.Prelude.{None as absent, Some as has}
 
 infix 10 ◌⊕◌≔◌ ◌▷◌≔◌
 infix 5 ◌⊢ᵛ◌⦂◌ ◌⊢ˢ◌⦂◌ ◌∣◌⊢ᵉ◌⦂◌
+-- what a context says of a bound variable: nothing, or that it may be used as a type
+abbrev pub Entry : Type 0
+Entry = Option Ty
+
 -- a context: one entry for each bound variable, in their order; it has the variables that are not absent
 abbrev pub Ctx : Type 0
 Ctx = List Entry

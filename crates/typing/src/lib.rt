@@ -4,8 +4,6 @@
 ghost use Rattle.typing.specs.Cases.{Cases, MoreCases};
 ghost use Rattle.typing.specs.Theorems.{BodiesDecided, ProgramsDecided, BytesDecided, EncodingsDecided};
 
-pub mod entries;
-
 /// No question is answered no exactly where a program is accepted: for bodies, programs, bytes and encodings.
 pub fn typing_stands()
     ensures bodies { BodiesDecided }

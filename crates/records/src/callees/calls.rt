@@ -1,9 +1,8 @@
 //! What each operation takes and gives.
 ghost use Rattle.std.specs.Prelude.{◌≡◌, ◌+◌, ◌≤◌, length, None, nat_lt};
-ghost use Rattle.reader.specs.declared.operations.Operation.TheVariants.{Enq, Deq, Function};
-ghost use Rattle.reader.specs.Syntax.{Program};
+ghost use Rattle.reader.specs.declared.operations.Operation.TheVariants.{Function};
 ghost use Rattle.rows.specs.Rows.{items};
-ghost use Rattle.records.specs.Tables.{Stands, Called};
+ghost use Rattle.records.specs.Tables.{ForProgram, Called};
 
 use super::Callee;
 use crate::tables::Table;
@@ -24,7 +23,7 @@ fn row(types: &[Ty]) -> Row<Ty, 8>
 {
     let mut row = Row::new(Ty::Int);
     for ty in types {
-        row.push(*ty);
+        row.push(*ty).unwrap();
     }
     row
 }
@@ -51,29 +50,9 @@ impl Table<'_> {
         usize::from(queue) < 2 + usize::from(self.header.queues)
     }
 
-    /// Putting a packet into a queue, which the program does not do to `receive`.
-    fn enq(&self, queue: u8) -> Option<Callee>
-        ensures { (P : Program) → Stands self.now P → Called P (Enq queue) result }
-    {
-        if !self.has_queue(queue) || queue == RECEIVE {
-            return None;
-        }
-        Some(built_in(&[Ty::Packet], &[]))
-    }
-
-    /// Taking a packet out of a queue, which the program does not do to `transmit`.
-    fn deq(&self, queue: u8) -> Option<Callee>
-        ensures { (P : Program) → Stands self.now P → Called P (Deq queue) result }
-    {
-        if !self.has_queue(queue) || queue == TRANSMIT {
-            return None;
-        }
-        Some(built_in(&[], &[Ty::Packet]))
-    }
-
     /// A function of the program.
     fn function(&self, function: u8) -> Option<Callee>
-        ensures { (P : Program) → Stands self.now P → Called P (Function function) result }
+        ensures { ForProgram self.now (λ P. Called P (Function function) result) }
     {
         let record = self.record(function)?;
         Some(Callee {
@@ -85,7 +64,7 @@ impl Table<'_> {
 
     /// What an operation takes and gives, if the program has that operation.
     pub fn callee(&self, operation: Operation) -> Option<Callee>
-        ensures { (P : Program) → Stands self.now P → Called P operation result }
+        ensures { ForProgram self.now (λ P. Called P operation result) }
     {
         match operation {
             Operation::Compute(_) => Some(built_in(&[Ty::Int, Ty::Int], &[Ty::Int])),
@@ -95,10 +74,14 @@ impl Table<'_> {
             Operation::Kill => Some(built_in(&[Ty::Packet], &[])),
             Operation::Read => Some(built_in(&[Ty::Alias, Ty::Int], &[Ty::Int])),
             Operation::Update => Some(built_in(&[Ty::Alias, Ty::Int, Ty::Int], &[])),
-            Operation::Enq(queue) => self.enq(queue),
-            Operation::Deq(queue) => self.deq(queue),
+            Operation::Enq(queue) if self.has_queue(queue) && queue != RECEIVE => {
+                Some(built_in(&[Ty::Packet], &[]))
+            }
+            Operation::Deq(queue) if self.has_queue(queue) && queue != TRANSMIT => {
+                Some(built_in(&[], &[Ty::Packet]))
+            }
             Operation::Function(function) => self.function(function),
-            Operation::Unknown(_, _) => None,
+            Operation::Enq(_) | Operation::Deq(_) | Operation::Unknown(_, _) => None,
         }
     }
 }

@@ -18,9 +18,9 @@ fn types(window: &Window, count: u8, place: usize) -> Result<(Row<Ty, 8>, usize)
 {
     let mut types = Row::new(Ty::Int);
     let mut next = place;
-    for _i in 0..count {
+    for _ in 0..count {
         let (ty, after) = window.ty(next)?;
-        types.push(ty);
+        types.push(ty).unwrap();
         next = after;
     }
     Ok((types, next))

@@ -1,5 +1,6 @@
 //! How a table is made.
-ghost use Rattle.std.specs.Prelude.{◌≡◌, ◌≤◌, length, take};
+ghost use Rattle.std.specs.Prelude.{◌≡◌, ◌≤◌, length};
+ghost use Rattle.rows.specs.Rows.{items};
 ghost use Rattle.records.specs.Glances.{after, starts};
 ghost use Rattle.records.specs.Tables.{Tabled};
 
@@ -7,6 +8,7 @@ use super::Table;
 use reader::faults::Fault;
 use reader::programs;
 use reader::windows::Window;
+use rows::row::Row;
 
 /// Where the length of the record at a place leads, or the end of the program.
 fn place_after(program: &[u8], place: usize) -> usize
@@ -19,14 +21,14 @@ fn place_after(program: &[u8], place: usize) -> usize
 }
 
 /// The places of `count` records, the first right after the counts.
-fn places(program: &[u8], count: u8) -> [usize; 64]
+fn places(program: &[u8], count: u8) -> Row<usize, 64>
     requires { count ≤ 64 }
-    ensures { take count result ≡ starts program.now (length program.now) count 6 }
+    ensures { items result ≡ starts program.now (length program.now) count 6 }
 {
-    let mut places = [0; 64];
+    let mut places = Row::new(0);
     let mut place = 6;
-    for i in 0..count {
-        places[usize::from(i)] = place;
+    for _ in 0..count {
+        places.push(place).unwrap();
         place = place_after(program, place);
     }
     places

@@ -1,6 +1,5 @@
 //! The records of a table.
-ghost use Rattle.reader.specs.Syntax.{Program};
-ghost use Rattle.records.specs.Tables.{Stands, Recorded};
+ghost use Rattle.records.specs.Tables.{ForProgram, Recorded};
 
 use super::glances::glance_at;
 use super::{Record, Table};
@@ -8,13 +7,9 @@ use super::{Record, Table};
 impl Table<'_> {
     /// The record of a function, if the program has that function.
     pub fn record(&self, function: u8) -> Option<Record>
-        ensures { (P : Program) → Stands self.now P → Recorded self.now.program.now P function result }
+        ensures { ForProgram self.now (λ P. Recorded self.now.program.now P function result) }
     {
-        // Only the first bound ever decides for a program that reads; the second makes any table safe to ask.
-        if function >= self.header.functions || function >= 64 {
-            return None;
-        }
-        let place = self.places[usize::from(function)];
+        let place = self.places.get(usize::from(function))?;
         glance_at(self.program, function, place).ok()
     }
 }

@@ -1,6 +1,6 @@
 //! What can be done with a row.
-ghost use Rattle.std.specs.Prelude.{◌≡◌, ◌<◌, ◌↔◌, [], ◌∷◌, ◌++◌, length, slice_set, IsTrue, IsOk, OnOk, OnErr};
-ghost use Rattle.rows.specs.Rows.{items, nth};
+ghost use Rattle.std.specs.Prelude.{◌≡◌, ◌<◌, ◌↔◌, [], ◌∷◌, ◌++◌, length, slice_get, slice_set, IsTrue, IsOk, OnOk, OnErr};
+ghost use Rattle.rows.specs.Rows.{items};
 
 use super::{Full, Row};
 
@@ -35,7 +35,7 @@ impl<T: Copy, const N: usize> Row<T, N> {
 
     /// The value at a place, if there is one.
     pub fn get(&self, i: usize) -> Option<T>
-        ensures { result ≡ nth (items self.now) i }
+        ensures { result ≡ slice_get (items self.now) i }
     {
         self.as_slice().get(i).copied()
     }

@@ -1,47 +1,43 @@
-use Rattle.std.proofs.Common.{◌≡◌, ◌+◌, true, ◌&&◌, length, Ok, Err, sym, ap, ◌∙◌, arith}
+use Rattle.std.proofs.Common.{◌≡◌, ◌+◌, true, false, None, Some, Err, length, refl, ap, ◌∙◌, arith}
+use Rattle.std.specs.Prelude.{position, slice_get}
 use Rattle.reader.specs.declared.questions.Question.TheVariants.{ThreadSignature, NoAliasResult}
-use Rattle.reader.specs.declared.headers.Header.{Header}
 use Rattle.reader.specs.Faults.{fault}
-use Rattle.typing.specs.Layers.{empty, no_alias, results_place, thread_ready}
-use Rattle.checker.proofs.Aliases.{ready, no_thread, bare_thread, not_ready}
-use Rattle.checker.proofs.Places.{few, place_is, body-place, says_of, recorded_not}
+use Rattle.records.specs.Tables.{places}
+use Rattle.typing.specs.Layers.{results_place}
+use Rattle.checker.proofs.Aliases.{lent, outside-is}
+use Rattle.checker.proofs.Places.{place_is, place_none, ready-is, body-place, says_of}
 use Rattle.checker.proofs.functions.outside.Goals as goal
-use Rattle.checker.proofs.functions.outside.Goals.{else-function-table-via-then-function-table+else-not-is_bare, else-function-table-via-else-function-table}
 
 pub returns-in_default : goal.returns-in_default
-returns-in_default c P F s h = absurd (recorded_not c.args.table.now.program.now P c.args.function F (c.in_default.ensures P s) h)
+returns-in_default c P s F h =
+    let none : None ≡ slice_get (places P.functions) c.args.function = cc c.in_default.ensures in
+    absurd (place_none P c.args.function F none h)
 
-pub returns-then-not-is_bare : goal.returns-then-not-is_bare
-returns-then-not-is_bare c P F s h =
+pub returns-then-not-is_ready : goal.returns-then-not-is_ready
+returns-then-not-is_ready c P s F h =
+    let t = c.args.table.now in
     let i = c.args.function in
-    let y = says_of c.args.table.now.program.now P i F c.in-Some.record (c.in-Some.ensures P s) h in
-    let here = c.place_of.ensures (few c.args.table.now P s i F h) ∙ place_is c.args.table.now P s i F h in
-    ap Err (c.new.ensures ∙ ap (fault ThreadSignature i) here)
-    ∙ not_ready P i F (omega (arith, ap (λ (x : Header). x.threads) s.counts))
-    (sym ((λ j. empty (y.params j) && empty (y.results j))) ∙ sym c.if-not-is_bare.ensures)
+    let r = c.in-Some-record.record in
+    let y = says_of t.program.now P i F r (c.in-Some-record.ensures P s) h in
+    let at : Some c.in-Some.place ≡ slice_get (places P.functions) i = cc c.in-Some.ensures in
+    ap Err (c.new.ensures ∙ ap (fault ThreadSignature i) (place_is P i c.in-Some.place F at h))
+    ∙ outside-is P i F false _ (c.if-not-is_ready.ensures ∙ ready-is t P s i F h r y) refl
 
 pub returns-in-None : goal.returns-in-None
-returns-in-None c P F s h =
+returns-in-None c P s F h =
+    let t = c.args.table.now in
     let i = c.args.function in
-    let y = says_of c.args.table.now.program.now P i F c.in-Some.record (c.in-Some.ensures P s) h in
-    let fit : thread_ready P i F ≡ true =
-    elim c.else-function-table.branch [
-      | else-function-table-via-then-function-table+else-not-is_bare w ↦ bare_thread P i F (sym ((λ j. empty (y.params j) && empty (y.results j))) ∙ sym w.if-not-is_bare.ensures)
-      | else-function-table-via-else-function-table w ↦ no_thread P i F (omega (arith, w.if-function-table.false, ap (λ (x : Header). x.threads) s.counts))
-    ] in
-    ready P i F (Ok tt) fit (sym (c.in-None.ensures i (results_place F)) ∙ ap (no_alias i (results_place F)) y.results)
+    let r = c.in-Some-record.record in
+    let y = says_of t.program.now P i F r (c.in-Some-record.ensures P s) h in
+    outside-is P i F true None (c.if-not-is_ready.ensures ∙ ready-is t P s i F h r y) (c.in-None.ensures ∙ ap (position lent) y.results)
 
 pub returns-in-Some-first_alias : goal.returns-in-Some-first_alias
-returns-in-Some-first_alias c P F s h =
+returns-in-Some-first_alias c P s F h =
+    let t = c.args.table.now in
     let i = c.args.function in
-    let y = says_of c.args.table.now.program.now P i F c.in-Some.record (c.in-Some.ensures P s) h in
-    let fit : thread_ready P i F ≡ true =
-    elim c.else-function-table.branch [
-      | else-function-table-via-then-function-table+else-not-is_bare w ↦ bare_thread P i F (sym ((λ j. empty (y.params j) && empty (y.results j))) ∙ sym w.if-not-is_bare.ensures)
-      | else-function-table-via-else-function-table w ↦ no_thread P i F (omega (arith, w.if-function-table.false, ap (λ (x : Header). x.threads) s.counts))
-    ] in
-    let stands = body-place c.args.table.now P s i F h c.in-Some.record y in
-    let here : c.saturating_sub.result + c.in-Some-first_alias.i ≡ results_place F + c.in-Some-first_alias.i = omega (arith, ap length y.results) in
-    ready P i F (Err c.new-in-Some-first_alias.result) fit
-    (ap Err (c.new-in-Some-first_alias.ensures ∙ ap (fault NoAliasResult i) here)
-    ∙ sym (c.in-Some-first_alias.ensures.1 i (results_place F)) ∙ ap (no_alias i (results_place F)) y.results)
+    let k = c.in-Some-first_alias.i in
+    let r = c.in-Some-record.record in
+    let y = says_of t.program.now P i F r (c.in-Some-record.ensures P s) h in
+    let here : c.saturating_sub.result + k ≡ results_place F + k = omega (arith, body-place t P s i F h r y, ap length y.results) in
+    ap Err (c.new-in-Some-first_alias.ensures ∙ ap (fault NoAliasResult i) here)
+    ∙ outside-is P i F true (Some k) (c.if-not-is_ready.ensures ∙ ready-is t P s i F h r y) (c.in-Some-first_alias.ensures ∙ ap (position lent) y.results)

@@ -1,8 +1,9 @@
-use Rattle.std.proofs.Common.{◌≡◌, ◌-◌, ◌++◌, length, take}
+use Rattle.std.proofs.Common.{◌≡◌, ◌-◌, ◌++◌, length}
+use Rattle.rows.specs.Rows.{items}
 use Rattle.records.specs.Glances.{starts}
 use Rattle.records.proofs.tables.making.places.Given as goal
 
-abbrev pub invariant-loop-i : goal.invariant-loop-i
-invariant-loop-i l =
-    (take l.i l.places ++ starts l.program (length l.program) (l.count - l.i) l.place ≡ starts l.program (length l.program) l.count 6)
-    × (length l.places ≡ 64)
+abbrev pub invariant-loop : goal.invariant-loop
+invariant-loop l =
+    (items l.places ++ starts l.program (length l.program) (l.count - l.counter) l.place ≡ starts l.program (length l.program) l.count 6)
+    × (length (items l.places) ≡ l.counter)
