@@ -23,7 +23,7 @@ impl Walk<'_> {
     pub(crate) fn fault(&self, question: Question, place: usize) -> Fault
         ensures { result ≡ fault question self.now.window.function place }
     {
-        Fault::new(question, self.window.function, place)
+        self.window.fault(question, place)
     }
 }
 

@@ -10,7 +10,7 @@ use crate::values::{Operand, Values};
 use crate::windows::Window;
 
 /// A node without what follows it.
-#[derive(Clone, Copy)]
+#[derive(Debug, Clone, Copy, PartialEq, Eq)]
 pub enum Node {
     Return {
         values: Values,

@@ -10,6 +10,7 @@ use crate::questions::Question;
 use crate::windows::Window;
 
 /// The function that a fault outside records carries.
+// A number and no `Option`: a denial is reported with it.
 const OUTSIDE: u8 = 255;
 
 impl Window<'_> {

@@ -2,7 +2,8 @@
 use store::Name;
 
 /// What a variable of a running function holds.
-#[derive(Clone, Copy)]
+// No `Option` around the other four: the rules match all five at once, which is as plain.
+#[derive(Debug, Clone, Copy, PartialEq, Eq)]
 pub enum Held {
     /// A spent owner's variable.
     Nothing,

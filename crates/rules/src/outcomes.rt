@@ -3,33 +3,28 @@ ghost use Rattle.std.specs.Prelude.{◌≡◌};
 ghost use Rattle.rules.specs.Numbers.{cause_number};
 
 /// Why a thread waits.
-#[derive(Clone, Copy)]
+#[derive(Debug, Clone, Copy, PartialEq, Eq)]
 pub enum Cause {
     /// A deq on an empty queue.
-    EmptyQueue,
+    EmptyQueue = 1,
     /// An enq on a queue of 16.
-    FullQueue,
+    FullQueue = 2,
     /// A new when the thread has made as many packets as the name limit allows.
-    NoName,
+    NoName = 3,
     /// A new when the store has no room for the packet.
-    NoRoom,
+    NoRoom = 4,
 }
 
 impl Cause {
     pub fn number(self) -> u8
         ensures { result ≡ cause_number self }
     {
-        match self {
-            Cause::EmptyQueue => 1,
-            Cause::FullQueue => 2,
-            Cause::NoName => 3,
-            Cause::NoRoom => 4,
-        }
+        self as u8
     }
 }
 
 /// What came of a step.
-#[derive(Clone, Copy)]
+#[derive(Debug, Clone, Copy, PartialEq, Eq)]
 pub enum Outcome {
     Advanced,
     Waits(Cause),

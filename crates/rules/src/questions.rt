@@ -5,54 +5,42 @@ ghost use Rattle.rules.specs.Numbers.{question_number, refusal_number};
 use reader::faults::Fault;
 
 /// What a machine asks before it does as told. The first question answered no is why a call is denied.
-#[derive(Clone, Copy)]
+#[derive(Debug, Clone, Copy, PartialEq, Eq)]
 pub enum Question {
     /// Is a program loaded?
-    Loaded,
+    Loaded = 1,
     /// Is none loaded?
-    NoneLoaded,
+    NoneLoaded = 2,
     /// Is the name limit at least 1?
-    SomeNames,
+    SomeNames = 3,
     /// Is nothing of the store in use?
-    StoreUnused,
+    StoreUnused = 4,
     /// Is the thread between 1 and the thread count?
-    ThreadExists,
+    ThreadExists = 5,
     /// Is the length at most the largest size?
-    Fits,
+    Fits = 6,
     /// Does `receive` hold fewer than 16 names?
-    ReceiveFree,
+    ReceiveFree = 7,
     /// Is the network's count below the name limit?
-    NameLeft,
+    NameLeft = 8,
     /// Has the store room for the packet?
-    Room,
+    Room = 9,
     /// Does `transmit` hold a name?
-    Sent,
+    Sent = 10,
     /// Does the packet fit the buffer?
-    BufferHolds,
+    BufferHolds = 11,
 }
 
 impl Question {
     pub fn number(self) -> u8
         ensures { result ≡ question_number self }
     {
-        match self {
-            Question::Loaded => 1,
-            Question::NoneLoaded => 2,
-            Question::SomeNames => 3,
-            Question::StoreUnused => 4,
-            Question::ThreadExists => 5,
-            Question::Fits => 6,
-            Question::ReceiveFree => 7,
-            Question::NameLeft => 8,
-            Question::Room => 9,
-            Question::Sent => 10,
-            Question::BufferHolds => 11,
-        }
+        self as u8
     }
 }
 
 /// Why a load is not granted: a question of the machine, or the program's fault, passed on whole.
-#[derive(Clone, Copy)]
+#[derive(Debug, Clone, Copy, PartialEq, Eq)]
 pub enum Refusal {
     Denied(Question),
     Faulty(Fault),
