@@ -1,15 +1,14 @@
 -- Tables of named records, and the map that a table means: row by row, each with a name or none, and a packet.
-use Rattle.std.specs.Prelude.{◌≡◌, ℕ, suc, ◌+◌, ◌<◌, Bool, true, false, cond, not, ◌&&◌, List, [], ◌∷◌, length, is_some, Some, None, Option, slice_index_or}
+use Rattle.std.specs.Prelude.{◌≡◌, ℕ, suc, ◌+◌, ◌<◌, Bool, true, cond, not, ◌&&◌, List, [], ◌∷◌, length, is_some, Some, None, Option, slice_index_or}
+use Rattle.std.specs.Option.{option_eq}
 use Rattle.store.specs.declared.name.Name.{Name}
 use Rattle.store.specs.Names.{same}
 use Rattle.store.specs.Meaning.{Meaning}
 use Rattle.store.specs.Packets.{Packet, Packets, packet, empty, insert, lookup}
 
+-- whether both are one name, or none
 abbrev pub alike : Option Name → Option Name → Bool
-alike None None = true
-alike None (Some b) = false
-alike (Some a) None = false
-alike (Some a) (Some b) = same a b
+alike a b = option_eq same a b
 
 abbrev pub next : Option ℕ → Option ℕ
 next None = None

@@ -1,3 +1,5 @@
+//! Packet stores: names, questions and denials, what each store promises, and the calls over any of them.
+
 #![tactic(auto)]
 
 pub mod calls;
