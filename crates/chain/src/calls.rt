@@ -8,20 +8,18 @@ use store::{Handed, Name, Question, Store};
 // The most bytes of a packet.
 const LARGEST: usize = 1024;
 
+// The number of this kind.
+const CHAIN: u8 = 2;
+
 impl<'a> Store for Chain<'a> {
-    const KIND: u8 = 2;
-
     ghost kind = { 2 };
-
-    // the struct's own ghost fields say where a chain stands
-    ghost made = { λ _. Unit {0} };
 
     ghost meaning = { λ s. lent_meaning s.lent };
 
-    fn kind_number() -> u8
+    fn kind() -> u8
         ensures { result ≡ 2 }
     {
-        Self::KIND
+        CHAIN
     }
 
     fn make(&mut self, name: Name, size: usize) -> Result<(), Question> {

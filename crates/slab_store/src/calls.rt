@@ -5,20 +5,18 @@ use crate::lent::SLOT;
 use crate::slab::Slab;
 use store::{Handed, Name, Question, Store};
 
+// The number of this kind.
+const SLAB: u8 = 1;
+
 impl<'a> Store for Slab<'a> {
-    const KIND: u8 = 1;
-
     ghost kind = { 1 };
-
-    // the struct's own ghost fields say where a slab stands
-    ghost made = { λ _. Unit {0} };
 
     ghost meaning = { λ s. slab_meaning s.lent };
 
-    fn kind_number() -> u8
+    fn kind() -> u8
         ensures { result ≡ 1 }
     {
-        Self::KIND
+        SLAB
     }
 
     fn make(&mut self, name: Name, size: usize) -> Result<(), Question> {
