@@ -4,12 +4,18 @@
 
 pub mod calls;
 pub mod denial;
+pub mod label;
+pub mod lent;
+pub mod lent_store;
 pub mod name;
 pub mod named;
 pub mod store;
 pub mod zeros;
 
 pub use denial::{Denial, Handed, Question};
+pub use label::Label;
+pub use lent::Lent;
+pub use lent_store::LentStore;
 pub use name::Name;
 pub use named::{Named, find};
 pub use store::Store;

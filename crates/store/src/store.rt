@@ -8,14 +8,12 @@ use crate::name::Name;
 
 /// A store of packets. Its meaning is a map from names to packets, a largest size, a capacity in units and a need for each size.
 pub trait Store {
-    ghost kind: { ℕ };
+    /// The number of the store's kind, which each denial carries.
+    const KIND: u8;
+
+    ghost KIND: { ℕ };
 
     ghost meaning: { Self → Meaning };
-
-    /// The number of the store's kind, which each denial carries.
-    // no constant: an impl with a lifetime parameter could not say its value in a clause
-    fn kind() -> u8
-        ensures { result ≡ kind };
 
     /// Adds a packet of zeros, held by its maker.
     fn make(&mut self, name: Name, size: usize) -> Result<(), Question>
