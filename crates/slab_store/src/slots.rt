@@ -78,7 +78,7 @@ impl Lent for Slots<'_> {
     }
 
     fn release(&mut self, slot: usize) {
-        self.slots[slot] = Slot::free();
+        self.slots[slot] = Slot { label: None };
     }
 
     fn put(&mut self, slot: usize, offset: usize, byte: u8) {

@@ -1,4 +1,4 @@
-use Rattle.std.proofs.Common.{rules}
+use Rattle.std.proofs.Common.{rules, refl}
 use Rattle.slab_store.proofs.Changes.{alive-within, rows_release}
 use Rattle.slab_store.proofs.slots.SlotsLent.release.Goals as goal
 
@@ -12,4 +12,4 @@ bounds-self-slot c = alive-within c.args.self.now.slots.now c.args.self.now.memo
 pub returns-clause-released : goal.returns-clause-released
 returns-clause-released c =
     let l = c.args.self.now in
-    rows_release l.slots.now l.memory.now c.args.slot c.free.result (alive-within l.slots.now l.memory.now c.args.slot c.requires.alive) c.free.result c.free.ensures
+    rows_release l.slots.now l.memory.now c.args.slot c.index-self-slot.result (alive-within l.slots.now l.memory.now c.args.slot c.requires.alive) _ refl
