@@ -1,4 +1,5 @@
 mod Changes
+mod Joined
 mod Linked
-mod Wiping
 mod Stored
+mod Wiping

@@ -12,7 +12,7 @@ module _ (l : Cells) where
 
   module _ (ok : Sound l) where
     pub total-chain : total chain_need (rows l) ≡ needs_of l.heads.now
-    total-chain = linked-total l.heads.now l.links.now l.memory.now l.free l.spare ok
+    total-chain = linked-total l.links.now l.memory.now l.heads.now l.free l.spare ok
 
     -- the packet of a size takes no more cells than are spare
     pub spare-enough : (size i : ℕ) → Vacant chain_need (rows l) size (Some i) → chain_need size ≤ l.spare
@@ -25,5 +25,5 @@ module _ (l : Cells) where
     vacancy size k e h None f =
         let u = total-chain in
         let p = length-places in
-        let n = needs_full l.heads.now (sym (place-rows None l.heads.now l.links.now l.memory.now) ∙ sym f) in omega arith
+        let n = needs_full l.heads.now (sym (place-rows l.links.now l.memory.now None l.heads.now) ∙ sym f) in omega arith
     vacancy size k e h (Some i) f = (f, let u = total-chain in let p = length-places in let x = ok.units in omega arith)

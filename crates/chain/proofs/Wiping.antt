@@ -5,14 +5,9 @@ use lib.ListN.{length-replicate}
 use Rattle.std.proofs.lemmas.List.{places}
 use Rattle.std.proofs.lemmas.Slice.{overwrites}
 use Rattle.std.proofs.lemmas.Bool.{cases_eq}
-use Rattle.chain.specs.Cells.{nth_cell, cells, cell_bytes, hit, count}
+use Rattle.chain.specs.Cells.{nth_cell, cells, cell_bytes, hit, count, Wiped}
 use Rattle.store.proofs.Blocks.{block-put, others_put}
 use Rattle.chain.proofs.Linked.{hit_same, hit_other, count-append, cells_add, count-nth}
-
-pub record Wiped (links : List ℕ) (first k : ℕ) (memory changed : List ℕ) : Type 0 where
-  pub long : length changed ≡ length memory
-  pub zeros : (c : ℕ) → 1 ≤ count c (cells links first k) → cell_bytes c changed ≡ replicate 32 0
-  pub others : (c : ℕ) → count c (cells links first k) ≡ 0 → cell_bytes c changed ≡ cell_bytes c memory
 
 pub wiped_none : (links : List ℕ) (first : ℕ) (memory : List ℕ) → Wiped links first 0 memory memory
 wiped_none links first memory = record { long = refl; zeros = λ c h. absurd (let y : ⊥ = omega arith in y); others = λ c h. refl }

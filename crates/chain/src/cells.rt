@@ -1,17 +1,18 @@
 //! A chain's lent memory, in cells of 32 bytes.
 
-ghost use Rattle.std.specs.Prelude.{◌≡◌, ℕ, ◌+◌, ◌*◌, ◌<◌, ◌≤◌, true, length, replicate};
+ghost use Rattle.std.specs.Prelude.{◌≡◌, ℕ, ◌+◌, ◌*◌, ◌<◌, ◌≤◌, true, length, is_some, Some, slice_index_or};
 ghost use Rattle.std.proofs.Common.{arith};
 ghost use Rattle.std.proofs.Props.{props};
-ghost use Rattle.chain.specs.Cells.{nth_cell, cells, cell_bytes, count};
-ghost use Rattle.chain.specs.Chains.{chain_need};
-ghost use Rattle.chain.specs.Lents.{rows, Sound, spot_of};
+ghost use Rattle.chain.specs.Cells.{nth_cell, cells, count, Wiped};
+ghost use Rattle.chain.specs.Chains.{chain_need, spot_of};
+ghost use Rattle.chain.specs.Heads.{no_head};
+ghost use Rattle.chain.specs.Lents.{rows, Sound};
 ghost use Rattle.store.specs.Packets.{empty};
 ghost use Rattle.store.specs.Rows.{distinct, gathered, row_at};
 
-use crate::head::Head;
+use crate::head::{Head, Stored};
 use crate::links::cell_at;
-use store::{Lent, Name, clear, find};
+use store::{Label, Lent, Name, clear, find};
 
 // The bytes of a cell.
 pub(crate) const CELL: usize = 32;
@@ -45,9 +46,7 @@ impl<'a> Cells<'a> {
         ensures packets { gathered (rows result) ≡ empty }
         ensures places { length (rows result) ≡ length heads.old }
     {
-        for head in heads.iter_mut() {
-            *head = Head::free();
-        }
+        heads.fill(Head::free());
         for (i, link) in links.iter_mut().enumerate() {
             *link = i + 1;
         }
@@ -72,9 +71,7 @@ impl<'a> Cells<'a> {
     fn wipe(&mut self, first: usize, amount: usize) -> usize
         requires { (c : ℕ) → 1 ≤ count c (cells self.old.links.now first amount) → 32 * c + 32 ≤ length self.old.memory.now }
         ensures behind { result ≡ nth_cell self.old.links.now first amount }
-        ensures long { length self.new.memory.now ≡ length self.old.memory.now }
-        ensures zeros { (c : ℕ) → 1 ≤ count c (cells self.old.links.now first amount) → cell_bytes c self.new.memory.now ≡ replicate 32 0 }
-        ensures others { (c : ℕ) → count c (cells self.old.links.now first amount) ≡ 0 → cell_bytes c self.new.memory.now ≡ cell_bytes c self.old.memory.now }
+        ensures wiped { Wiped self.old.links.now first amount self.old.memory.now self.new.memory.now }
         ensures links { self.new.links.now ≡ self.old.links.now }
         ensures heads { self.new.heads.now ≡ self.old.heads.now }
         ensures spare { self.new.spare ≡ self.old.spare }
@@ -88,15 +85,24 @@ impl<'a> Cells<'a> {
         cell
     }
 
-    // The place in memory of an offset of a head's packet.
-    fn spot(&self, head: usize, offset: usize) -> usize
+    // What the table keeps of the packet at a place.
+    fn stored(&self, place: usize) -> Stored
+        requires { is_some (row_at (rows self.now) place).named ≡ true }
+        ensures within { place < length self.now.heads.now }
+        ensures kept { (slice_index_or self.now.heads.now place no_head).packet ≡ Some result }
+    {
+        self.heads[place].packet.unwrap()
+    }
+
+    // Where an offset of the packet at a place lies in memory.
+    fn spot(&self, place: usize, offset: usize) -> usize
         requires sound { Sound self.now }
-        requires inside { offset < length (row_at (rows self.now) head).packet.bytes }
-        ensures value { result ≡ spot_of self.now head offset }
+        requires inside { offset < length (row_at (rows self.now) place).packet.bytes }
+        ensures value { result ≡ spot_of self.now.links.now (slice_index_or self.now.heads.now place no_head).packet offset }
         ensures within { result < length self.now.memory.now }
     {
-        let old = self.heads[head];
-        CELL * self.cell(old.first, offset / CELL) + offset % CELL
+        let stored = self.stored(place);
+        CELL * self.cell(stored.first, offset / CELL) + offset % CELL
     }
 }
 
@@ -129,24 +135,24 @@ impl<'a> Lent for Cells<'a> {
     // the packet takes the first of the spare cells
     fn fill(&mut self, place: usize, name: Name, size: usize) {
         let amount = Self::need(size);
+        let label = Label {
+            name,
+            holder: name.maker,
+            size,
+        };
         let first = self.free;
         self.free = self.wipe(first, amount);
         self.spare -= amount;
-        self.heads[place] = Head {
-            name: Some(name),
-            holder: name.maker,
-            size,
-            first,
-        };
+        self.heads[place].packet = Some(Stored { label, first });
     }
 
     // the packet's cells become the first of the spare ones
     fn release(&mut self, place: usize) {
-        let old = self.heads[place];
-        let amount = Self::need(old.size);
-        let last = self.cell(old.first, amount - 1);
+        let stored = self.stored(place);
+        let amount = Self::need(stored.label.size);
+        let last = self.cell(stored.first, amount - 1);
         self.links[last] = self.free;
-        self.free = old.first;
+        self.free = stored.first;
         self.spare += amount;
         self.heads[place] = Head::free();
     }
@@ -157,15 +163,17 @@ impl<'a> Lent for Cells<'a> {
     }
 
     fn hand(&mut self, place: usize, holder: u8) {
-        self.heads[place].holder = holder;
+        let mut stored = self.stored(place);
+        stored.label.holder = holder;
+        self.heads[place].packet = Some(stored);
     }
 
     fn size(&self, place: usize) -> usize {
-        self.heads[place].size
+        self.stored(place).label.size
     }
 
     fn holder(&self, place: usize) -> u8 {
-        self.heads[place].holder
+        self.stored(place).label.holder
     }
 
     fn byte(&self, place: usize, offset: usize) -> u8 {
@@ -179,8 +187,8 @@ impl<'a> Lent for Cells<'a> {
     fn used(&self) -> usize {
         let mut sum = 0;
         for head in self.heads.iter() {
-            if head.name.is_some() {
-                sum += Self::need(head.size);
+            if let Some(stored) = head.packet {
+                sum += Self::need(stored.label.size);
             }
         }
         sum

@@ -1,16 +1,10 @@
-use Rattle.std.proofs.Common.{◌≡◌, ℕ, ◌+◌, ◌<◌, ◌≢◌, length, get_or, set, None, ap, ◌∙◌, arith, get_or-set_other, get_or-set_same, below_more}
+use Rattle.std.proofs.Common.{◌≡◌, ℕ, ◌+◌, ◌<◌, ◌≢◌, List, length, get_or, set, replicate, sym, ap, ◌∙◌, subst, arith, get_or-set_other, get_or-set_same, below_more}
 use Rattle.chain.specs.declared.head.Head.{Head}
-use Rattle.chain.specs.Chains.{no_head}
+use Rattle.chain.specs.Chains.{chain_rows, Linked}
+use Rattle.chain.specs.Heads.{no_head}
+use Rattle.store.specs.Rows.{distinct, gathered}
 use Rattle.chain.proofs.Changes.{length-rows, start-rows, start-linked}
 use Rattle.chain.proofs.cells.Cells.over.Goals as goal
-
-pub loop-head-preserved : goal.loop-head-preserved
-loop-head-preserved c =
-    below_more (λ k. (get_or (set c.loop-head.heads c.loop-head.head-index c.free.result) k no_head).name ≡ None) c.loop-head.head-index
-    (λ k h. let ne : k ≢ c.loop-head.head-index = omega arith in
-    ap (λ (x : Head). x.name) (get_or-set_other c.loop-head.heads c.loop-head.head-index k c.free.result no_head ne) ∙ c.loop-head.invariant k h)
-    (let lt : c.loop-head.head-index < length c.loop-head.heads = omega (arith, c.loop-head.auto.heads, c.loop-head-test.true) in
-    ap (λ (x : Head). x.name) (get_or-set_same c.loop-head.heads c.loop-head.head-index c.free.result no_head lt ∙ c.free.ensures))
 
 pub loop-i-preserved : goal.loop-i-preserved
 loop-i-preserved c =
@@ -19,21 +13,23 @@ loop-i-preserved c =
     (let lt : c.loop-i.i < length c.loop-i.links = omega (arith, c.loop-i.auto.links, c.loop-i-test.true) in
     get_or-set_same c.loop-i.links c.loop-i.i (c.loop-i.i + 1) 0 lt)
 
+-- what holds of the heads of no packet holds of those at hand
 pub returns : goal.returns
 returns c =
-    let hs = c.loop-head.heads in
-    let th = c.loop-head-test.false in
-    let kh = c.loop-head.auto.heads in
+    let n = length c.args.heads.now in
+    let hs = c.fill.new.self in
     let ti = c.loop-i-test.false in
     let ki = c.loop-i.auto.links in
     let b = c.requires.bytes in
     let j = c.requires.joins in
-    let zh : (k : ℕ) → k < length hs → (get_or hs k no_head).name ≡ None = λ k h. c.loop-head.invariant k (omega arith) in
-    let zl : (k : ℕ) → k < length hs → get_or c.loop-i.links k 0 ≡ k + 1 = λ k h. c.loop-i.invariant k (omega arith) in
-    let e = start-rows c.loop-i.links c.args.memory.now hs zh in
+    let l = c.fill.ensures.len in
+    let is : hs ≡ replicate n no_head = c.fill.ensures.after (λ y e. e) ∙ ap (replicate n) c.free.ensures in
+    let up : (k : ℕ) → k < n → get_or c.loop-i.links k 0 ≡ k + 1 = λ k h. c.loop-i.invariant k (omega arith) in
+    let e = start-rows c.loop-i.links c.args.memory.now n in
     record {
-      sound = start-linked hs c.loop-i.links c.args.memory.now (omega arith) (omega arith) zl zh;
-      apart = e.1;
-      packets = e.0;
-      places = length-rows hs c.loop-i.links c.args.memory.now ∙ kh;
+      sound = subst (λ (m : ℕ). Linked hs c.loop-i.links c.args.memory.now 0 m) (sym l)
+          (subst (λ (x : List Head). Linked x c.loop-i.links c.args.memory.now 0 n) (sym is) (start-linked c.loop-i.links c.args.memory.now n b (omega arith) up));
+      apart = ap (λ (x : List Head). distinct (chain_rows x c.loop-i.links c.args.memory.now)) is ∙ e.1;
+      packets = ap (λ (x : List Head). gathered (chain_rows x c.loop-i.links c.args.memory.now)) is ∙ e.0;
+      places = length-rows hs c.loop-i.links c.args.memory.now ∙ l;
     }

@@ -1,30 +1,32 @@
-use Rattle.std.proofs.Common.{ℕ, ◌+◌, ◌*◌, ◌%◌, ap, rules}
-use Rattle.chain.proofs.Changes.{alive-within, bytes-alive, at_spot}
+use Rattle.std.proofs.Common.{ℕ, ◌+◌, ◌*◌, ◌%◌, ◌<◌, length, sym, ap, ◌∙◌, subst, rules}
+use Rattle.chain.proofs.Changes.{bytes-alive, spot_is, spot_inside}
 use Rattle.chain.proofs.cells.Cells.spot.Goals as goal
+use Rattle.chain.proofs.cells.Cells.spot.Goals.{After-cell}
 
-pub offset_bounds-self-head : goal.offset_bounds-self-head
-offset_bounds-self-head c =
+pub stored-stored-requires : goal.stored-stored-requires
+stored-stored-requires c =
     let l = c.args.self.now in
-    let w = alive-within l.heads.now l.links.now l.memory.now c.args.head (bytes-alive l.heads.now l.links.now l.memory.now c.args.head c.args.offset c.requires.inside) in search rules
+    bytes-alive l.links.now l.memory.now l.heads.now c.args.place c.args.offset c.requires.inside
 
-pub bounds-self-head : goal.bounds-self-head
-bounds-self-head c =
+fits : (c : After-cell) → 32 * c.cell.result + c.args.offset % 32 < length c.args.self.now.memory.now
+fits c =
     let l = c.args.self.now in
-    alive-within l.heads.now l.links.now l.memory.now c.args.head (bytes-alive l.heads.now l.links.now l.memory.now c.args.head c.args.offset c.requires.inside)
+    let e = c.stored-stored.ensures in
+    subst (λ (x : ℕ). 32 * x + c.args.offset % 32 < length l.memory.now) (sym c.cell.ensures)
+    (spot_inside l.heads.now l.links.now l.memory.now l.free l.spare c.requires.sound c.args.place e.within c.stored-stored.result e.kept c.args.offset c.requires.inside)
 
 pub overflow_mul-result : goal.overflow_mul-result
-overflow_mul-result c =
-    let l = c.args.self.now in
-    let s = (at_spot l.heads.now l.links.now l.memory.now l.free l.spare c.args.head c.requires.sound c.args.offset c.requires.inside c.cell.result c.cell.ensures).0 in search rules
+overflow_mul-result c = let s = fits c in search rules
 
 pub overflow_add-result : goal.overflow_add-result
-overflow_add-result c =
-    let l = c.args.self.now in
-    let s = (at_spot l.heads.now l.links.now l.memory.now l.free l.spare c.args.head c.requires.sound c.args.offset c.requires.inside c.cell.result c.cell.ensures).0 in search rules
+overflow_add-result c = let s = fits c in search rules
 
 pub returns : goal.returns
 returns c =
     let l = c.args.self.now in
-    let s = at_spot l.heads.now l.links.now l.memory.now l.free l.spare c.args.head c.requires.sound c.args.offset c.requires.inside c.cell.result c.cell.ensures in
-    let e = c.cell.ensures in
-    record { value = ap (λ (x : ℕ). 32 * x + c.args.offset % 32) e; within = s.0 }
+    let e = c.stored-stored.ensures in
+    record {
+      value = ap (λ (x : ℕ). 32 * x + c.args.offset % 32) c.cell.ensures
+          ∙ sym (spot_is l.heads.now l.links.now l.memory.now l.free l.spare c.requires.sound c.args.place e.within c.stored-stored.result e.kept c.args.offset c.requires.inside);
+      within = fits c;
+    }

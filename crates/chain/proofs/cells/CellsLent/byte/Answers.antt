@@ -1,9 +1,10 @@
-use Rattle.std.proofs.Common.{ℕ, get_or, refl, ap, ◌∙◌}
-use Rattle.chain.proofs.Changes.{at_spot}
+use Rattle.std.proofs.Common.{ℕ, get_or, ap, ◌∙◌}
+use Rattle.chain.proofs.Changes.{bytes-alive, alive-stored, get_byte}
 use Rattle.chain.proofs.cells.CellsLent.byte.Goals as goal
 
 pub returns : goal.returns
 returns c =
     let l = c.args.self.now in
-    let s = at_spot l.heads.now l.links.now l.memory.now l.free l.spare c.args.place c.requires.sound c.args.offset c.requires.inside _ refl in
-    ap (λ (x : ℕ). get_or l.memory.now x 0) c.spot.ensures.value ∙ s.1
+    let s = alive-stored l.links.now l.memory.now l.heads.now c.args.place (bytes-alive l.links.now l.memory.now l.heads.now c.args.place c.args.offset c.requires.inside) in
+    ap (λ (x : ℕ). get_or l.memory.now x 0) c.spot.ensures.value
+    ∙ get_byte l.heads.now l.links.now l.memory.now l.free l.spare c.requires.sound c.args.place s.0 s.1.0 s.1.1 c.args.offset c.requires.inside

@@ -1,5 +1,7 @@
-use Rattle.std.proofs.Common.{◌<◌, length, ap, arith, rules}
-use Rattle.chain.proofs.Changes.{spare-inside, free-head, at_fill}
+use Rattle.std.proofs.Common.{◌<◌, ◌≤◌, length, set, Some, ap, ◌∙◌, arith, rules}
+use Rattle.chain.specs.declared.head.Head.{Head}
+use Rattle.chain.specs.Chains.{chain_rows}
+use Rattle.chain.proofs.Changes.{spare-inside, free-head, fill_linked, fill_rows}
 use Rattle.chain.proofs.Stored.{spare-enough}
 use Rattle.chain.proofs.cells.CellsLent.fill.Goals as goal
 
@@ -19,7 +21,7 @@ overflow_sub-self c =
 pub offset_bounds-self-place : goal.offset_bounds-self-place
 offset_bounds-self-place c =
     let l = c.args.self.now in
-    let w = (free-head l.heads.now l.links.now l.memory.now c.args.place c.requires.vacant.0).0 in
+    let w = (free-head l.links.now l.memory.now l.heads.now c.args.place c.requires.vacant.0).0 in
     let e = ap length c.wipe-self.ensures.heads in
     let lt : c.args.place < length c.wipe-self.new.self.heads.now = omega arith in
     search rules
@@ -27,15 +29,23 @@ offset_bounds-self-place c =
 pub bounds-self-place : goal.bounds-self-place
 bounds-self-place c =
     let l = c.args.self.now in
-    let w = (free-head l.heads.now l.links.now l.memory.now c.args.place c.requires.vacant.0).0 in
+    let w = (free-head l.links.now l.memory.now l.heads.now c.args.place c.requires.vacant.0).0 in
     let e = ap length c.wipe-self.ensures.heads in
     omega arith
 
 pub returns : goal.returns
 returns c =
     let l = c.args.self.now in
-    let r = spare-enough l c.requires.sound c.args.size c.args.place c.requires.vacant in
-    let f = at_fill l.heads.now l.links.now l.memory.now l.free l.spare c.args.place c.requires.sound c.requires.vacant.0 c.need-amount.result c.args.size c.need-amount.ensures r c.args.name c.args.name.maker
-    c.wipe-self.new.self.heads.now c.wipe-self.new.self.links.now c.wipe-self.new.self.memory.now c.wipe-self.result c.wipe-self.new.self.spare
-    c.wipe-self.ensures.heads c.wipe-self.ensures.links c.wipe-self.ensures.behind c.wipe-self.ensures.spare c.wipe-self.ensures.long c.wipe-self.ensures.zeros c.wipe-self.ensures.others in
-    record { sound = f.0; filled = f.1 }
+    let p = c.args.place in
+    let w = c.wipe-self.ensures in
+    let f = free-head l.links.now l.memory.now l.heads.now p c.requires.vacant.0 in
+    let v = c.need-amount.ensures in
+    let r = spare-enough l c.requires.sound c.args.size p c.requires.vacant in
+    let le : c.need-amount.result ≤ l.spare = omega arith in
+    let new : Head = record { packet = Some (record { label = record { name = c.args.name; holder = c.args.name.maker; size = c.args.size }; first = l.free }) } in
+    record {
+      sound = rw (w.heads, w.links, w.spare)
+          (fill_linked l.heads.now l.links.now l.memory.now l.free l.spare c.requires.sound p f.0 f.1 c.need-amount.result c.args.size v le c.args.name c.wipe-self.result w.behind c.wipe-self.new.self.memory.now w.wiped);
+      filled = (λ t. chain_rows (set (w.heads t) p new) (w.links t) c.wipe-self.new.self.memory.now)
+          ∙ fill_rows l.heads.now l.links.now l.memory.now l.free l.spare c.requires.sound p f.0 f.1 c.need-amount.result c.args.size v le c.args.name c.wipe-self.result w.behind c.wipe-self.new.self.memory.now w.wiped;
+    }

@@ -5,4 +5,4 @@ use Rattle.chain.proofs.cells.CellsLent.seek.Goals as goal
 pub returns : goal.returns
 returns c =
     let l = c.args.self.now in
-    c.find.ensures ∙ sym (place-rows (Some c.args.name) l.heads.now l.links.now l.memory.now)
+    c.find.ensures ∙ sym (place-rows l.links.now l.memory.now (Some c.args.name) l.heads.now)

@@ -1,28 +1,24 @@
-use Rattle.std.proofs.Common.{get_or, sym, ap, arith}
-use Rattle.std.proofs.lemmas.List.{drop_all}
-use Rattle.chain.specs.Chains.{needs_of}
-use Rattle.chain.proofs.Changes.{needs_more, if_some, if_none}
-use Rattle.chain.specs.Chains.{no_head}
-use Rattle.chain.proofs.Stored.{total-chain, length-places}
+use Rattle.std.proofs.Common.{ap, arith}
+use Rattle.std.proofs.lemmas.List.{take_all}
+use Rattle.std.proofs.lemmas.List.Sums.{sum_by_more}
+use Rattle.chain.specs.declared.head.Head.{Head}
+use Rattle.chain.specs.Chains.{need_if, needs_of}
+use Rattle.chain.specs.Heads.{no_head}
+use Rattle.chain.proofs.Stored.{total-chain}
 use Rattle.chain.proofs.cells.CellsLent.used.Goals as goal
-use Rattle.chain.proofs.cells.CellsLent.used.Goals.{then-is_some, else-is_some}
+use Rattle.chain.proofs.cells.CellsLent.used.Goals.{in-Some, in_default}
 
 pub loop-head-preserved : goal.loop-head-preserved
 loop-head-preserved c =
-    let l = c.args.self.now in
-    let m = needs_more l.heads.now c.loop-head.head-index c.loop-head-test.true in
+    let m = sum_by_more (λ (h : Head). need_if h.packet) c.args.self.now.heads.now c.loop-head.head-index no_head c.loop-head-test.true in
     let i = c.loop-head.invariant in
-    elim c.if-is_some.branch [
-      | then-is_some w ↦ let o = if_some (get_or l.heads.now c.loop-head.head-index no_head).name (get_or l.heads.now c.loop-head.head-index no_head).size (sym w.if-is_some.ensures) in let e = w.sum-is in let v = w.need-sum.ensures in omega arith
-      | else-is_some w ↦ let o = if_none (get_or l.heads.now c.loop-head.head-index no_head).name (get_or l.heads.now c.loop-head.head-index no_head).size (sym w.if-is_some.ensures) in let e = w.sum-is in omega arith
+    elim c.match-head.branch [
+      | in-Some w ↦ let n = ap need_if w.in-Some.is in let e = w.sum-is in let v = w.need-sum.ensures in omega arith
+      | in_default w ↦ let n = ap need_if w.in_default.is in let e = w.sum-is in omega arith
     ]
 
-pub returns : goal.returns
-returns c =
-    let l = c.args.self.now in
-    let e = ap needs_of (drop_all c.loop-head.head-index l.heads.now c.loop-head-test.false) in
-    let u = total-chain l c.requires in
-    let p = length-places l in
-    let x = c.requires.units in
-    let i = c.loop-head.invariant in
-    record { value = omega arith; within = omega arith }
+pub returns-clause-value : goal.returns-clause-value
+returns-clause-value c =
+    let e = ap needs_of (take_all c.loop-head.head-index c.args.self.now.heads.now c.loop-head-test.false) in
+    let u = total-chain c.args.self.now c.requires in
+    let i = c.loop-head.invariant in omega arith

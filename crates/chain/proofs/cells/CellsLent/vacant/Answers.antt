@@ -10,4 +10,4 @@ pub returns : goal.returns
 returns c =
     let l = c.args.self.now in
     vacancy l c.requires c.args.size c.need.result c.need.ensures c.if-need-self.false c.find.result
-    (c.find.ensures ∙ sym (place-rows None l.heads.now l.links.now l.memory.now))
+    (c.find.ensures ∙ sym (place-rows l.links.now l.memory.now None l.heads.now))
