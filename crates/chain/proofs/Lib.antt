@@ -1,5 +1,5 @@
 mod Changes
 mod Joined
 mod Linked
-mod Stored
+mod Rows
 mod Wiping

@@ -3,7 +3,7 @@ use Rattle.chain.specs.declared.head.Head.{Head}
 use Rattle.chain.specs.Chains.{chain_rows, Linked}
 use Rattle.chain.specs.Heads.{no_head}
 use Rattle.store.specs.Rows.{distinct, gathered}
-use Rattle.chain.proofs.Changes.{length-rows, start-rows, start-linked}
+use Rattle.chain.proofs.Rows.{length-rows, start-rows, start-linked}
 use Rattle.chain.proofs.cells.Cells.over.Goals as goal
 
 pub loop-i-preserved : goal.loop-i-preserved

@@ -6,14 +6,14 @@ use Rattle.chain.proofs.cells.Cells.spot.Goals.{After-cell}
 pub stored-stored-requires : goal.stored-stored-requires
 stored-stored-requires c =
     let l = c.args.self.now in
-    bytes-alive l.links.now l.memory.now l.heads.now c.args.place c.args.offset c.requires.inside
+    bytes-alive l c.args.place c.args.offset c.requires.inside
 
 fits : (c : After-cell) → 32 * c.cell.result + c.args.offset % 32 < length c.args.self.now.memory.now
 fits c =
     let l = c.args.self.now in
     let e = c.stored-stored.ensures in
     subst (λ (x : ℕ). 32 * x + c.args.offset % 32 < length l.memory.now) (sym c.cell.ensures)
-    (spot_inside l.heads.now l.links.now l.memory.now l.free l.spare c.requires.sound c.args.place e.within c.stored-stored.result e.kept c.args.offset c.requires.inside)
+    (spot_inside l c.requires.sound c.args.place e.within c.stored-stored.result e.kept c.args.offset c.requires.inside)
 
 pub overflow_mul-result : goal.overflow_mul-result
 overflow_mul-result c = let s = fits c in search rules
@@ -27,6 +27,6 @@ returns c =
     let e = c.stored-stored.ensures in
     record {
       value = ap (λ (x : ℕ). 32 * x + c.args.offset % 32) c.cell.ensures
-          ∙ sym (spot_is l.heads.now l.links.now l.memory.now l.free l.spare c.requires.sound c.args.place e.within c.stored-stored.result e.kept c.args.offset c.requires.inside);
+          ∙ sym (spot_is l c.requires.sound c.args.place e.within c.stored-stored.result e.kept c.args.offset c.requires.inside);
       within = fits c;
     }

@@ -5,6 +5,6 @@ use Rattle.chain.proofs.cells.CellsLent.byte.Goals as goal
 pub returns : goal.returns
 returns c =
     let l = c.args.self.now in
-    let s = alive-stored l.links.now l.memory.now l.heads.now c.args.place (bytes-alive l.links.now l.memory.now l.heads.now c.args.place c.args.offset c.requires.inside) in
+    let s = alive-stored l c.args.place (bytes-alive l c.args.place c.args.offset c.requires.inside) in
     ap (λ (x : ℕ). get_or l.memory.now x 0) c.spot.ensures.value
-    ∙ get_byte l.heads.now l.links.now l.memory.now l.free l.spare c.requires.sound c.args.place s.0 s.1.0 s.1.1 c.args.offset c.requires.inside
+    ∙ get_byte l c.requires.sound c.args.place s.0 s.1.0 s.1.1 c.args.offset c.requires.inside

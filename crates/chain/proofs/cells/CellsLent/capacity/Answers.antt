@@ -1,5 +1,5 @@
 use Rattle.std.proofs.Common.{sym}
-use Rattle.chain.proofs.Stored.{length-places}
+use Rattle.chain.proofs.Changes.{length-places}
 use Rattle.chain.proofs.cells.CellsLent.capacity.Goals as goal
 
 pub returns : goal.returns

@@ -6,6 +6,6 @@ returns c =
     let l = c.args.self.now in
     let e = c.stored-stored.ensures in
     record {
-      sound = hand_linked l.heads.now l.links.now l.memory.now l.free l.spare c.requires.sound c.args.place e.within c.stored-stored.result e.kept c.args.holder;
-      handed = hand_rows l.heads.now l.links.now l.memory.now l.free l.spare c.requires.sound c.args.place e.within c.stored-stored.result e.kept c.args.holder;
+      sound = hand_linked l c.requires.sound c.args.place e.within c.stored-stored.result e.kept c.args.holder;
+      handed = hand_rows l c.requires.sound c.args.place e.within c.stored-stored.result e.kept c.args.holder;
     }

@@ -8,19 +8,19 @@ pub offset_bounds-self-last : goal.offset_bounds-self-last
 offset_bounds-self-last c =
     let l = c.args.self.now in
     let e = c.stored-stored.ensures in
-    let w = (last-inside l.heads.now l.links.now l.memory.now l.free l.spare c.requires.sound c.args.place e.within c.stored-stored.result e.kept c.need-amount.result c.need-amount.ensures c.cell-last.result c.cell-last.ensures).0 in search rules
+    let w = (last-inside l c.requires.sound c.args.place e.within c.stored-stored.result e.kept c.need-amount.result c.need-amount.ensures c.cell-last.result c.cell-last.ensures).0 in search rules
 
 pub bounds-self-last : goal.bounds-self-last
 bounds-self-last c =
     let l = c.args.self.now in
     let e = c.stored-stored.ensures in
-    (last-inside l.heads.now l.links.now l.memory.now l.free l.spare c.requires.sound c.args.place e.within c.stored-stored.result e.kept c.need-amount.result c.need-amount.ensures c.cell-last.result c.cell-last.ensures).0
+    (last-inside l c.requires.sound c.args.place e.within c.stored-stored.result e.kept c.need-amount.result c.need-amount.ensures c.cell-last.result c.cell-last.ensures).0
 
 pub overflow_add-self : goal.overflow_add-self
 overflow_add-self c =
     let l = c.args.self.now in
     let e = c.stored-stored.ensures in
-    let w = (last-inside l.heads.now l.links.now l.memory.now l.free l.spare c.requires.sound c.args.place e.within c.stored-stored.result e.kept c.need-amount.result c.need-amount.ensures c.cell-last.result c.cell-last.ensures).1 in search rules
+    let w = (last-inside l c.requires.sound c.args.place e.within c.stored-stored.result e.kept c.need-amount.result c.need-amount.ensures c.cell-last.result c.cell-last.ensures).1 in search rules
 
 pub returns : goal.returns
 returns c =
@@ -29,7 +29,7 @@ returns c =
     let ls = set l.links.now c.cell-last.result l.free in
     record {
       sound = subst (λ (x : Head). Linked (set l.heads.now c.args.place x) ls l.memory.now c.stored-stored.result.first (l.spare + c.need-amount.result)) (sym c.free.ensures)
-          (release_linked l.heads.now l.links.now l.memory.now l.free l.spare c.requires.sound c.args.place e.within c.stored-stored.result e.kept c.need-amount.result c.need-amount.ensures c.cell-last.result c.cell-last.ensures);
+          (release_linked l c.requires.sound c.args.place e.within c.stored-stored.result e.kept c.need-amount.result c.need-amount.ensures c.cell-last.result c.cell-last.ensures);
       released = ap (λ (x : Head). chain_rows (set l.heads.now c.args.place x) ls l.memory.now) c.free.ensures
-          ∙ release_rows l.heads.now l.links.now l.memory.now l.free l.spare c.requires.sound c.args.place e.within c.stored-stored.result e.kept c.need-amount.result c.need-amount.ensures c.cell-last.result c.cell-last.ensures;
+          ∙ release_rows l c.requires.sound c.args.place e.within c.stored-stored.result e.kept c.need-amount.result c.need-amount.ensures c.cell-last.result c.cell-last.ensures;
     }

@@ -4,7 +4,7 @@ use Rattle.std.proofs.lemmas.List.Sums.{sum_by_more}
 use Rattle.chain.specs.declared.head.Head.{Head}
 use Rattle.chain.specs.Chains.{need_if, needs_of}
 use Rattle.chain.specs.Heads.{no_head}
-use Rattle.chain.proofs.Stored.{total-chain}
+use Rattle.chain.proofs.Changes.{total-chain}
 use Rattle.chain.proofs.cells.CellsLent.used.Goals as goal
 use Rattle.chain.proofs.cells.CellsLent.used.Goals.{in-Some, in_default}
 
