@@ -7,11 +7,7 @@ ghost use Rattle.chain.specs.Cells.{step, nth_cell};
 pub(crate) fn cell_at(links: &[usize], first: usize, steps: usize) -> usize
     ensures { result ≡ nth_cell links.now first steps }
 {
-    let mut cell = first;
-    for _ in 0..steps {
-        cell = next_cell(links, cell);
-    }
-    cell
+    (0..steps).fold(first, |cell, _| next_cell(links, cell))
 }
 
 // The cell that a cell's link names; 0 past the table.

@@ -1,5 +1,5 @@
-use Rattle.std.proofs.Common.{ℕ, ◌+◌, ◌*◌, ◌%◌, ◌<◌, length, sym, ap, ◌∙◌, subst, rules}
-use Rattle.chain.proofs.Changes.{bytes-alive, spot_is, spot_inside}
+use Rattle.std.proofs.Common.{ℕ, ◌+◌, ◌*◌, ◌%◌, ◌<◌, length, sym, subst, rules}
+use Rattle.chain.proofs.Changes.{bytes-alive, spot_inside}
 use Rattle.chain.proofs.cells.Cells.spot.Goals as goal
 use Rattle.chain.proofs.cells.Cells.spot.Goals.{After-cell}
 
@@ -21,12 +21,5 @@ overflow_mul-result c = let s = fits c in search rules
 pub overflow_add-result : goal.overflow_add-result
 overflow_add-result c = let s = fits c in search rules
 
-pub returns : goal.returns
-returns c =
-    let l = c.args.self.now in
-    let e = c.stored-stored.ensures in
-    record {
-      value = ap (λ (x : ℕ). 32 * x + c.args.offset % 32) c.cell.ensures
-          ∙ sym (spot_is l c.requires.sound c.args.place e.within c.stored-stored.result e.kept c.args.offset c.requires.inside);
-      within = fits c;
-    }
+pub returns-clause-within : goal.returns-clause-within
+returns-clause-within c = fits c

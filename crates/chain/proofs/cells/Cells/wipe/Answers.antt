@@ -1,8 +1,8 @@
-use Rattle.std.proofs.Common.{◌≡◌, ℕ, suc, ◌+◌, ◌-◌, ◌*◌, ◌<◌, ◌≤◌, List, length, take, drop, replicate, sym, refl, ap, ◌∙◌, subst, arith, length-drop, length-take, rules}
+use Rattle.std.proofs.Common.{◌≡◌, ℕ, suc, ◌+◌, ◌-◌, ◌*◌, ◌<◌, ◌≤◌, List, length, take, drop, replicate, sym, ap, ◌∙◌, subst, arith, length-drop, length-take, rules}
 use borrow.Rule.Slice.PartMut.{put_mid}
 use Rattle.chain.specs.Cells.{step, nth_cell, cells, count, Wiped}
 use Rattle.chain.proofs.Linked.{nth_back}
-use Rattle.chain.proofs.Wiping.{wiped_none, wiped_more, nth_inside}
+use Rattle.chain.proofs.Wiping.{wiped_more, nth_inside}
 use Rattle.chain.proofs.cells.Cells.wipe.Goals as goal
 
 -- the cell at hand lies inside memory
@@ -12,9 +12,6 @@ fits links memory changed first k amount cell lt w e i =
     let n = nth_inside links first k amount (length memory) lt w in
     let m : 32 * cell ≡ 32 * nth_cell links first k = ap (λ (x : ℕ). 32 * x) e in
     let l = i.long in omega arith
-
-pub loop-init : goal.loop-init
-loop-init c = record { at = refl; wiped = wiped_none c.args.self.now.links.now c.args.first c.args.self.now.memory.now; links = refl; heads = refl; spare = refl }
 
 pub overflow_mul-start : goal.overflow_mul-start
 overflow_mul-start c = let f = fits _ _ c.loop.self.memory.now c.args.first c.loop.counter c.args.amount c.loop.cell c.loop-test.true c.requires c.loop.invariant.at c.loop.invariant.wiped in search rules
@@ -42,18 +39,6 @@ loop-preserved c =
     record {
       at = c.cell-cell.ensures ∙ ap (λ (ls : List ℕ). step ls cell) i.links ∙ ap (step links) i.at ∙ sym (nth_back links c.args.first k) ∙ ap (nth_cell links c.args.first) w;
       wiped = subst (λ (x : ℕ). Wiped links c.args.first (k + 1) c.args.self.now.memory.now (put_mid (32 * x) (32 * cell + 32 - 32 * cell) changed c.clear.new.part)) (sym i.at) more;
-      links = i.links;
-      heads = i.heads;
-      spare = i.spare;
-    }
-
-pub returns : goal.returns
-returns c =
-    let i = c.loop.invariant in
-    let e : c.loop.counter ≡ c.args.amount = omega (arith, c.loop-test.false) in
-    record {
-      behind = i.at ∙ ap (nth_cell c.args.self.now.links.now c.args.first) e;
-      wiped = subst (λ (k : ℕ). Wiped c.args.self.now.links.now c.args.first k c.args.self.now.memory.now c.loop.self.memory.now) e i.wiped;
       links = i.links;
       heads = i.heads;
       spare = i.spare;

@@ -13,22 +13,20 @@ wipe-self-requires c =
 
 pub overflow_sub-self : goal.overflow_sub-self
 overflow_sub-self c =
+    let r = spare-enough c.args.self.now c.requires.sound c.args.size c.args.place c.requires.vacant in
     let v = c.need-amount.ensures in
-    let e = c.wipe-self.ensures.spare in
-    let r = spare-enough c.args.self.now c.requires.sound c.args.size c.args.place c.requires.vacant in search rules
+    let e = c.wipe-self.ensures.spare in search rules
 
 pub offset_bounds-self-place : goal.offset_bounds-self-place
 offset_bounds-self-place c =
-    let l = c.args.self.now in
-    let w = (free-head l c.args.place c.requires.vacant.0).0 in
+    let w = (free-head c.args.self.now c.args.place c.requires.vacant.0).0 in
     let e = ap length c.wipe-self.ensures.heads in
     let lt : c.args.place < length c.wipe-self.new.self.heads.now = omega arith in
     search rules
 
 pub bounds-self-place : goal.bounds-self-place
 bounds-self-place c =
-    let l = c.args.self.now in
-    let w = (free-head l c.args.place c.requires.vacant.0).0 in
+    let w = (free-head c.args.self.now c.args.place c.requires.vacant.0).0 in
     let e = ap length c.wipe-self.ensures.heads in
     omega arith
 

@@ -16,12 +16,6 @@ bounds-self-last c =
     let e = c.stored-stored.ensures in
     (last-inside l c.requires.sound c.args.place e.within c.stored-stored.result e.kept c.need-amount.result c.need-amount.ensures c.cell-last.result c.cell-last.ensures).0
 
-pub overflow_add-self : goal.overflow_add-self
-overflow_add-self c =
-    let l = c.args.self.now in
-    let e = c.stored-stored.ensures in
-    let w = (last-inside l c.requires.sound c.args.place e.within c.stored-stored.result e.kept c.need-amount.result c.need-amount.ensures c.cell-last.result c.cell-last.ensures).1 in search rules
-
 pub returns : goal.returns
 returns c =
     let l = c.args.self.now in
