@@ -154,7 +154,7 @@ impl<'a> Lent for Cells<'a> {
         self.links[last] = self.free;
         self.free = stored.first;
         self.spare += amount;
-        self.heads[place] = Head::free();
+        self.heads[place].packet = None;
     }
 
     fn put(&mut self, place: usize, offset: usize, byte: u8) {
