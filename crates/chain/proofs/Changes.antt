@@ -317,7 +317,7 @@ module _ (l : Cells) where
               let p = nth_cell links s.first (off / 32) in
               let f = (alone p (count-nth links s.first (off / 32) (chain_need s.label.size) near)).0 in
               let others = rows_same (set hs i no_head) links memory (set memory spot b)
-              (λ c h. others-set 32 p (off % 32) b memory low c (λ w. let u : counts c (set hs i no_head) links ≡ 0 = ap (λ (y : ℕ). counts y (set hs i no_head) links) w ∙ f in (let y : ⊥ = omega arith in y))) in
+              (λ c h. others-set 32 p (off % 32) b memory low c (λ w. let u : counts c (set hs i no_head) links ≡ 0 = ap (λ (y : ℕ). counts y (set hs i no_head) links) w ∙ f in omega arith)) in
               let back : set (set hs i no_head) i (get_or hs i no_head) ≡ hs = set-set hs i no_head (get_or hs i no_head) ∙ set-get_or hs i no_head in
               let r : head_row links (set memory spot b) kept ≡ with_packet (with_byte off b) (row_at (rows l) i) =
               row_is (set memory spot b)

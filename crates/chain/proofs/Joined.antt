@@ -29,7 +29,7 @@ joined-zeros memory (c ∷ cs) z =
 -- a byte of the q-th cell is set
 pub joined-put : (memory : List ℕ) (n : ℕ) → length memory ≡ 32 * n → (links : List ℕ) (c k q r b : ℕ) → ((d : ℕ) → count d (cells links c k) ≤ within d n) → q < k → r < 32
     → joined (set memory (32 * nth_cell links c q + r) b) (cells links c k) ≡ set (joined memory (cells links c k)) (32 * q + r) b
-joined-put memory n shape links c zero q r b w h lt = absurd (let y : ⊥ = omega arith in y)
+joined-put memory n shape links c zero q r b w h lt = absurd (omega arith)
 joined-put memory n shape links c (suc k) zero r b w h lt =
     let s = hit_same c c refl in
     let v = w c in
@@ -37,7 +37,7 @@ joined-put memory n shape links c (suc k) zero r b w h lt =
     let a = block-set 32 c r b memory lt in
     let z : count c (cells links (step links c) k) ≡ 0 = omega arith in
     let rest = joined_same memory (set memory (32 * c + r) b) (cells links (step links c) k)
-    (λ d g. others-set 32 c r b memory lt d (λ e. let u : count d (cells links (step links c) k) ≡ 0 = ap (λ (x : ℕ). count x (cells links (step links c) k)) e ∙ z in (let y : ⊥ = omega arith in y))) in
+    (λ d g. others-set 32 c r b memory lt d (λ e. let u : count d (cells links (step links c) k) ≡ 0 = ap (λ (x : ℕ). count x (cells links (step links c) k)) e ∙ z in omega arith)) in
     let l = length_cell memory n c shape (inside c n (count c (cells links c (suc k))) (omega arith) v) in
     let i : 32 * 0 + r ≡ r = omega arith in
     (λ t. a t ++ rest t)
@@ -60,7 +60,7 @@ joined-put memory n shape links c (suc k) (suc q) r b w h lt =
 
 pub joined_get : (memory : List ℕ) (n : ℕ) → length memory ≡ 32 * n → (links : List ℕ) (c k q r : ℕ) → ((d : ℕ) → count d (cells links c k) ≤ within d n) → q < k → r < 32
     → get_or (joined memory (cells links c k)) (32 * q + r) 0 ≡ get_or memory (32 * nth_cell links c q + r) 0
-joined_get memory n shape links c zero q r w h lt = absurd (let y : ⊥ = omega arith in y)
+joined_get memory n shape links c zero q r w h lt = absurd (omega arith)
 joined_get memory n shape links c (suc k) zero r w h lt =
     let s = hit_same c c refl in
     let vc = w c in

@@ -38,7 +38,7 @@ inside c n k h w = go (cases_lt c n)
   where
     go : (c < n) ⊎ (n ≤ c) → c < n
     go (inl lt) = lt
-    go (inr ge) = let s = within_past c n ge in absurd (let y : ⊥ = omega arith in y)
+    go (inr ge) = let s = within_past c n ge in omega arith
 
 pub count-append : (c : ℕ) (xs ys : List ℕ) → count c (xs ++ ys) ≡ count c xs + count c ys
 count-append c [] ys = omega arith
@@ -51,7 +51,7 @@ nth_back links c (suc k) = nth_back links (step links c) k
 
 pub cells_add : (links : List ℕ) (c j k n : ℕ) → n ≡ j + k → cells links c n ≡ cells links c j ++ cells links (nth_cell links c j) k
 cells_add links c zero k n e = let w : n ≡ k = omega arith in ap (cells links c) w
-cells_add links c (suc j) k zero e = absurd (let y : ⊥ = omega arith in y)
+cells_add links c (suc j) k zero e = absurd (omega arith)
 cells_add links c (suc j) k (suc n) e = ap (λ (l : List ℕ). c ∷ l) (cells_add links (step links c) j k n (omega arith))
 
 pub length-cells : (links : List ℕ) (c k : ℕ) → length (cells links c k) ≡ k
@@ -59,7 +59,7 @@ length-cells links c zero = refl
 length-cells links c (suc k) = ap suc (length-cells links (step links c) k)
 
 pub count-nth : (links : List ℕ) (c q k : ℕ) → q < k → 1 ≤ count (nth_cell links c q) (cells links c k)
-count-nth links c q zero h = absurd (let y : ⊥ = omega arith in y)
+count-nth links c q zero h = omega arith
 count-nth links c zero (suc k) h = let s = hit_same c c refl in omega arith
 count-nth links c (suc q) (suc k) h = let r = count-nth links (step links c) q k (omega arith) in omega arith
 

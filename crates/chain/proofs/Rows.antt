@@ -1,5 +1,5 @@
 -- The rows of a table of heads, and the needs of its packets.
-use Rattle.std.proofs.Common.{◌≡◌, ℕ, zero, suc, ◌+◌, ◌*◌, ◌<◌, ◌≤◌, true, cond, ◌⊎◌, List, [], ◌∷◌, length, get_or, replicate, is_some, Some, None, Option, sym, refl, ap, inl, inr, true≢false, arith, length-take}
+use Rattle.std.proofs.Common.{◌≡◌, ℕ, zero, suc, ◌+◌, ◌*◌, ◌<◌, ◌≤◌, true, cond, ◌⊎◌, List, [], ◌∷◌, length, get_or, replicate, is_some, Some, None, Option, refl, ap, inl, inr, arith, length-take}
 use Rattle.std.proofs.Math.ListN.{get_or-map}
 use Rattle.std.proofs.lemmas.List.{length-map, length-replicate}
 use Rattle.std.proofs.lemmas.List.Folds.{sum_by-replicate}
@@ -27,7 +27,7 @@ pub length-rows : (hs : List Head) (links memory : List ℕ) → length (chain_r
 length-rows hs links memory = length-map hs (λ (h : Head). head_row links memory h.packet)
 
 pub row_within : (rs : List Row) (i : ℕ) → is_some (row_at rs i).named ≡ true → i < length rs
-row_within [] i h = absurd (true≢false (sym h))
+row_within [] i h = cc
 row_within (r ∷ rs) zero h = omega arith
 row_within (r ∷ rs) (suc i) h = let w = row_within rs i h in omega arith
 
@@ -49,7 +49,7 @@ module _ (links memory : List ℕ) where
 
   -- a place with a packet keeps something, and one without a packet nothing
   pub some_stored : (o : Option Stored) → is_some (head_row links memory o).named ≡ true → (s : Stored) × (o ≡ Some s)
-  some_stored None h = absurd (true≢false (sym h))
+  some_stored None h = cc
   some_stored (Some s) h = (s, refl)
 
   pub none_stored : (o : Option Stored) → (head_row links memory o).named ≡ None → o ≡ None
@@ -58,7 +58,7 @@ module _ (links memory : List ℕ) where
 
   -- what has bytes is alive
   pub bytes-name : (o : Option Stored) (off : ℕ) → off < length (head_row links memory o).packet.bytes → is_some (head_row links memory o).named ≡ true
-  bytes-name None off lt = absurd (let y : ⊥ = omega arith in y)
+  bytes-name None off lt = absurd (omega arith)
   bytes-name (Some s) off lt = refl
 
   pub place-rows : (o : Option Name) (hs : List Head) → place o (chain_rows hs links memory) ≡ position (λ h. name_of h.packet) o hs
@@ -97,7 +97,7 @@ needs_full (h ∷ hs) e = go h.packet e (λ z. needs_full hs z) (needs-cons h hs
   where
     go : (o : Option Stored) → cond (alike (name_of o) None) (Some 0) (next (position (λ h. name_of h.packet) None hs)) ≡ None
         → (position (λ h. name_of h.packet) None hs ≡ None → length hs ≤ needs_of hs) → needs_of (h ∷ hs) ≡ need_if o + needs_of hs → suc (length hs) ≤ needs_of (h ∷ hs)
-    go None e rest z = absurd (let y : ◌≡◌ {A = ℕ} 0 1 = cc in (let y : ⊥ = omega arith in y))
+    go None e rest z = cc
     go (Some s) e rest z = let r = rest (none_next _ e) in let g = need-least s.label.size in omega arith
 
 -- ---- the start
@@ -110,7 +110,7 @@ module _ (links : List ℕ) (n : ℕ) (up : (k : ℕ) → k < n → get_or links
       let z : count c (cells links (step links a) m) ≡ count c (cells links (a + 1) m) = ap (λ (x : ℕ). count c (cells links x m)) u in
       let r0 = r.0 in
       let r1 = r.1 in
-      ((λ h. let s = hit_other c a (λ w. (let y : ⊥ = omega arith in y)) in let t = r0 (omega arith) in omega arith), go (cases_eq c a) z r0 r1)
+      ((λ h. let s = hit_other c a (λ w. omega arith) in let t = r0 (omega arith) in omega arith), go (cases_eq c a) z r0 r1)
     where
       go : (c ≡ a) ⊎ (c ≡ a → ⊥) → count c (cells links (step links a) m) ≡ count c (cells links (a + 1) m) → (c < a + 1 → count c (cells links (a + 1) m) ≡ 0)
           → count c (cells links (a + 1) m) ≤ within c n → hit c a + count c (cells links (step links a) m) ≤ within c n

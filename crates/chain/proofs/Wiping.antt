@@ -10,7 +10,7 @@ use Rattle.store.proofs.Blocks.{block-put, others_put}
 use Rattle.chain.proofs.Linked.{hit_same, hit_other, count-append, cells_add, count-nth}
 
 pub wiped_none : (links : List ℕ) (first : ℕ) (memory : List ℕ) → Wiped links first 0 memory memory
-wiped_none links first memory = record { long = refl; zeros = λ c h. absurd (let y : ⊥ = omega arith in y); others = λ c h. refl }
+wiped_none links first memory = record { long = refl; zeros = λ c h. absurd (omega arith); others = λ c h. refl }
 
 pub count_more : (links : List ℕ) (first k c : ℕ) → count c (cells links first (k + 1)) ≡ count c (cells links first k) + hit c (nth_cell links first k)
 count_more links first k c =
@@ -34,7 +34,7 @@ wiped_more links first k memory changed ys m w em fits z =
       long = (let e : length (put_mid (32 * d) m changed ys) ≡ length changed = search (rules, overwrites, places) in e ∙ l);
       zeros = λ c h. zero_at c (count_more links first k c) h (cases_eq c d) ly f le;
       others = λ c h. (let s = count_more links first k c in
-          let n : c ≢ d = (λ e. let t = hit_same c d e in (let y : ⊥ = omega arith in y)) in
+          let n : c ≢ d = (λ e. let t = hit_same c d e in omega arith) in
           others_put 32 d m changed ys le ly f c n ∙ w.others c (omega arith));
     }
   where

@@ -163,9 +163,9 @@ impl<'a> Lent for Cells<'a> {
     }
 
     fn hand(&mut self, place: usize, holder: u8) {
-        let mut stored = self.stored(place);
-        stored.label.holder = holder;
-        self.heads[place].packet = Some(stored);
+        if let Some(stored) = &mut self.heads[place].packet {
+            stored.label.holder = holder;
+        }
     }
 
     fn size(&self, place: usize) -> usize {
