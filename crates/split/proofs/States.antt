@@ -1,5 +1,5 @@
 -- A split's state as one of its stores is called, or both.
-use Rattle.std.proofs.Common.{◌≡◌, ℕ, ◌+◌, ◌-◌, ◌<◌, ◌≤◌, min, Bool, true, false, cond, ◌&&◌, eqb, ◌⊎◌, List, [], ◌∷◌, length, Some, None, Ok, Err, Option, Result, sym, refl, ap, ◌∙◌, subst, subst₂, inl, inr, arith, length-set, eqb-true, true≢false}
+use Rattle.std.proofs.Common.{◌≡◌, ℕ, ◌+◌, ◌-◌, ◌<◌, ◌≤◌, min, Bool, true, false, cond, eqb, ◌⊎◌, List, [], ◌∷◌, length, Some, None, Ok, Err, Option, Result, sym, refl, ap, ◌∙◌, subst, subst₂, inl, inr, arith, length-set, eqb-true, true≢false}
 use lib.ListN.{length-replicate}
 use Rattle.std.specs.Result.{is_ok, IsOkAnd, MatchResult}
 use Rattle.std.proofs.lemmas.Bool.{cases_lt, and_parts, eq-eqb, ne_eqb}
@@ -7,7 +7,7 @@ use Rattle.store.specs.declared.name.Name.{Name}
 use Rattle.store.specs.declared.denial.Handed.{Handed}
 use Rattle.store.specs.declared.denial.Question.{Question}
 use Rattle.store.specs.declared.denial.Question.TheVariants.{Alive}
-use Rattle.store.specs.Meaning.{Meaning, with_packets, found, units, answer, alive_no, size_of, size_answer, make_no, make_answer, make_after, discard_after, hand_answer, hand_after, write_after}
+use Rattle.store.specs.Meaning.{Meaning, with_packets, found, units, answer, alive_no, size_of, size_answer, make_no, make_after, discard_after, hand_answer, hand_after, write_after}
 use Rattle.store.specs.Packets.{Packet, Packets, Entry, empty, insert, remove, lookup, used, used_in, new_packet, with_holder, with_byte}
 use Rattle.store.proofs.Answered.{make_yes, make_granted, discard_alive, hand_alive, write_inside, write_outside}
 use Rattle.store.proofs.Maps.{packets_equal, packets_from_lookups, lookup-empty, used-empty, used-new, used-same, used-drop}
@@ -56,18 +56,9 @@ module _ (a b : Meaning) (n : Name) (clean : Bool) where
       lies-beyond (Ok size) e (Err p) m = absurd m
       lies-beyond (Err p) e place m = let z = size_denied (found b n) p e in subst (Placed a b clean n) (sym m) (z.0, sym beyond ∙ z.1)
 
--- a place that a search did not find
-pub unplaced : (a b : Meaning) (n : Name) (clean : Bool) (r : Result Place Question) → is_ok r ≡ false → Placed a b clean n r → found (split_meaning a b clean) n ≡ None
+unplaced : (a b : Meaning) (n : Name) (clean : Bool) (r : Result Place Question) → is_ok r ≡ false → Placed a b clean n r → found (split_meaning a b clean) n ≡ None
 unplaced a b n clean (Ok p) h t = absurd (true≢false h)
 unplaced a b n clean (Err q) h t = t.1
-
--- a place, as a call's match on it tells it
-module _ (a b : Meaning) (n : Name) (clean : Bool) {place : Place} {size : ℕ} where
-  pub at-near : place ≡ Near size → Placed a b clean n (Ok place) → Placed a b clean n (Ok (Near size))
-  at-near e t = subst (λ (p : Place). Placed a b clean n (Ok p)) e t
-
-  pub at-far : place ≡ Far size → Placed a b clean n (Ok place) → Placed a b clean n (Ok (Far size))
-  at-far e t = subst (λ (p : Place). Placed a b clean n (Ok p)) e t
 
 -- ---- a split as it is made
 module _ (a b : Meaning) (clean : Bool) {x y : ℕ} (e : x ≡ units a) (f : y ≡ units b) where
@@ -213,92 +204,103 @@ module _ {a b a' b' : Meaning} {clean : Bool} {k u : ℕ} (s : Stands a b clean 
   discarded p q {v} m =
       reached
       (dropped s live (subst (λ (o : Option Packet). Differs n o x a.packets) p l) (subst (λ (o : Option Packet). Differs n o y b.packets) q r) old w.there v m (λ t. discard_after (split_meaning a b t) n)
-          (discard_alive (split_meaning a b true) n old w.there).1)
+      (discard_alive (split_meaning a b true) n old w.there).1)
 
 -- ---- the packet lies near, or far
-module _ {a b : Meaning} {clean : Bool} {k u : ℕ} (s : Stands a b clean k u) {n : Name} {size : ℕ} where
+module _ {a b : Meaning} {clean : Bool} {k u : ℕ} (s : Stands a b clean k u) (n : Name) {size : ℕ} where
   -- an offset past the end changes nothing
   outside : {m : Meaning} (t : Lies m (split_meaning a b clean) clean n size) (i v : ℕ) → length t.packet.bytes ≤ i → Next a b clean k u (write_after (split_meaning a b clean) n i v)
   outside t i v h = record { stands = s; means = (write_outside (split_meaning a b clean) n t.packet (sym t.seen ∙ t.there) i v h).1 }
 
-  module _ (t : Lies a (split_meaning a b clean) clean n size) where
+  module _ {place : Place} (is : place ≡ Near size) (placed : Placed a b clean n (Ok place)) where
+    lies : Lies a (split_meaning a b clean) clean n size
+    lies = subst (λ (p : Place). Placed a b clean n (Ok p)) is placed
+
     near-alone : Differs n None b.packets b.packets
-    near-alone = lacking n b.packets ((s.fit t.live).apart n t.packet t.there)
+    near-alone = lacking n b.packets ((s.fit lies.live).apart n lies.packet lies.there)
 
     pub near_hand : {a' : Meaning} {h : ℕ} → h ≤ k → a' ≡ hand_after a n h → Next a' b clean k u (hand_after (split_meaning a b clean) n h)
-    near_hand {h = h} le e = handed_on s t.live (inserted n (with_holder h t.packet) a.packets) near-alone (e ∙ sym (hand_alive a n t.packet t.there h).1) refl (known-near s t) (near le)
+    near_hand {h = h} le e = handed_on s lies.live (inserted n (with_holder h lies.packet) a.packets) near-alone (e ∙ sym (hand_alive a n lies.packet lies.there h).1) refl (known-near s lies) (near le)
 
     pub near_write : {a' : Meaning} (i v : ℕ) → a' ≡ write_after a n i v → Next a' b clean k u (write_after (split_meaning a b clean) n i v)
-    near_write {a'} i v e = go (cases_lt i (length t.packet.bytes))
+    near_write {a'} i v e = go (cases_lt i (length lies.packet.bytes))
       where
-        go : (i < length t.packet.bytes) ⊎ (length t.packet.bytes ≤ i) → Next a' b clean k u (write_after (split_meaning a b clean) n i v)
+        go : (i < length lies.packet.bytes) ⊎ (length lies.packet.bytes ≤ i) → Next a' b clean k u (write_after (split_meaning a b clean) n i v)
         go (inl h) =
-            written s t.live (inserted n (with_byte i v t.packet) a.packets) near-alone (e ∙ sym (write_inside a n t.packet t.there i v h).1) refl (known-near s t) i v h
-            (near ((s.fit t.live).near n t.packet t.there).0)
-        go (inr h) = subst (λ (m : Meaning). Next m b clean k u (write_after (split_meaning a b clean) n i v)) ((write_outside a n t.packet t.there i v h).1 ∙ sym e) (outside t i v h)
+            written s lies.live (inserted n (with_byte i v lies.packet) a.packets) near-alone (e ∙ sym (write_inside a n lies.packet lies.there i v h).1) refl (known-near s lies) i v h
+            (near ((s.fit lies.live).near n lies.packet lies.there).0)
+        go (inr h) = subst (λ (m : Meaning). Next m b clean k u (write_after (split_meaning a b clean) n i v)) ((write_outside a n lies.packet lies.there i v h).1 ∙ sym e) (outside lies i v h)
 
     pub near_counted : larger a b size ≤ u
-    near_counted = counted s t.live (known-near s t) t.sized
+    near_counted = counted s lies.live (known-near s lies) lies.sized
 
     pub near_discard : {a' : Meaning} {need : ℕ} → need ≡ larger a b size → a' ≡ discard_after a n → Next a' b clean k (u - need) (discard_after (split_meaning a b clean) n)
     near_discard {need = need} z e =
-        discarded s t.live (removed n a.packets) near-alone (e ∙ sym (discard_alive a n t.packet t.there).1) refl (known-near s t) refl refl
-        (ap (λ (i : ℕ). u - i) (z ∙ ap (larger a b) (sym t.sized)))
+        discarded s lies.live (removed n a.packets) near-alone (e ∙ sym (discard_alive a n lies.packet lies.there).1) refl (known-near s lies) refl refl
+        (ap (λ (i : ℕ). u - i) (z ∙ ap (larger a b) (sym lies.sized)))
 
     -- the far store would take it
     near-room : make_no b n size ≡ None
     near-room =
-        let fit = s.fit t.live in
-        let p = fit.near n t.packet t.there in
-        let z = t.sized in
+        let fit = s.fit lies.live in
+        let p = fit.near n lies.packet lies.there in
+        let z = lies.sized in
         let v = used-merged (larger a b) a.packets b.packets fit.apart in
-        let w : larger a b size ≤ used (larger a b) a.packets = subst (λ (i : ℕ). larger a b i ≤ used (larger a b) a.packets) t.sized (used-member (larger a b) n t.packet a.packets t.there) in
+        let w : larger a b size ≤ used (larger a b) a.packets = subst (λ (i : ℕ). larger a b i ≤ used (larger a b) a.packets) lies.sized (used-member (larger a b) n lies.packet a.packets lies.there) in
         let m = used_mono b.need (larger a b) (λ i. omega arith) b.packets in
         let sum = fit.sum in
         let within = fit.within in
-        make_yes b n size (fit.apart n t.packet t.there) (omega arith) (omega arith)
+        make_yes b n size (fit.apart n lies.packet lies.there) (omega arith) (omega arith)
 
     pub near_move : {a' b' : Meaning} {h : ℕ} {r : Result Handed Question} → k < h → Moved a a' b b' n size h r
         → (r ≡ hand_answer (split_meaning a b clean) n) × Next a' b' clean k u (hand_after (split_meaning a b clean) n h)
     near_move {h = h} lt m =
-        let v = m t.packet t.there t.sized near-room in
-        (
-          v.0 ∙ (hand_alive (split_meaning a b clean) n t.packet (sym t.seen ∙ t.there) h).0,
-          handed_on s t.live (removed n a.packets) (inserted n (with_holder h t.packet) b.packets) v.1 v.2 (known-near s t) (far lt),
+        let v = m lies.packet lies.there lies.sized near-room in (
+          v.0 ∙ (hand_alive (split_meaning a b clean) n lies.packet (sym lies.seen ∙ lies.there) h).0,
+          handed_on s lies.live (removed n a.packets) (inserted n (with_holder h lies.packet) b.packets) v.1 v.2 (known-near s lies) (far lt),
         )
 
-  module _ (none : found a n ≡ None) (t : Lies b (split_meaning a b clean) clean n size) where
+  module _ {place : Place} (is : place ≡ Far size) (placed : Placed a b clean n (Ok place)) where
+    placed-far : (found a n ≡ None) × Lies b (split_meaning a b clean) clean n size
+    placed-far = subst (λ (p : Place). Placed a b clean n (Ok p)) is placed
+
+    none : found a n ≡ None
+    none = placed-far.0
+
+    held : Lies b (split_meaning a b clean) clean n size
+    held = placed-far.1
+
     far-alone : Differs n None a.packets a.packets
     far-alone = lacking n a.packets none
 
     pub far_hand : {b' : Meaning} {h : ℕ} → k < h → b' ≡ hand_after b n h → Next a b' clean k u (hand_after (split_meaning a b clean) n h)
-    far_hand {h = h} lt e = handed_on s t.live far-alone (inserted n (with_holder h t.packet) b.packets) refl (e ∙ sym (hand_alive b n t.packet t.there h).1) (known-far s none t) (far lt)
+    far_hand {h = h} lt e = handed_on s held.live far-alone (inserted n (with_holder h held.packet) b.packets) refl (e ∙ sym (hand_alive b n held.packet held.there h).1) (known-far s none held) (far lt)
 
     pub far_write : {b' : Meaning} (i v : ℕ) → b' ≡ write_after b n i v → Next a b' clean k u (write_after (split_meaning a b clean) n i v)
-    far_write {b'} i v e = go (cases_lt i (length t.packet.bytes))
+    far_write {b'} i v e = go (cases_lt i (length held.packet.bytes))
       where
-        go : (i < length t.packet.bytes) ⊎ (length t.packet.bytes ≤ i) → Next a b' clean k u (write_after (split_meaning a b clean) n i v)
+        go : (i < length held.packet.bytes) ⊎ (length held.packet.bytes ≤ i) → Next a b' clean k u (write_after (split_meaning a b clean) n i v)
         go (inl h) =
-            written s t.live far-alone (inserted n (with_byte i v t.packet) b.packets) refl (e ∙ sym (write_inside b n t.packet t.there i v h).1) (known-far s none t) i v h
-            (far ((s.fit t.live).far n t.packet t.there).0)
-        go (inr h) = subst (λ (m : Meaning). Next a m clean k u (write_after (split_meaning a b clean) n i v)) ((write_outside b n t.packet t.there i v h).1 ∙ sym e) (outside t i v h)
+            written s held.live far-alone (inserted n (with_byte i v held.packet) b.packets) refl (e ∙ sym (write_inside b n held.packet held.there i v h).1) (known-far s none held) i v h
+            (far ((s.fit held.live).far n held.packet held.there).0)
+        go (inr h) = subst (λ (m : Meaning). Next a m clean k u (write_after (split_meaning a b clean) n i v)) ((write_outside b n held.packet held.there i v h).1 ∙ sym e) (outside held i v h)
 
     pub far_counted : larger a b size ≤ u
-    far_counted = counted s t.live (known-far s none t) t.sized
+    far_counted = counted s held.live (known-far s none held) held.sized
 
     pub far_discard : {b' : Meaning} {need : ℕ} → need ≡ larger a b size → b' ≡ discard_after b n → Next a b' clean k (u - need) (discard_after (split_meaning a b clean) n)
     far_discard {need = need} z e =
-        discarded s t.live far-alone (removed n b.packets) refl (e ∙ sym (discard_alive b n t.packet t.there).1) (known-far s none t) refl refl
-        (ap (λ (i : ℕ). u - i) (z ∙ ap (larger a b) (sym t.sized)))
+        discarded s held.live far-alone (removed n b.packets) refl (e ∙ sym (discard_alive b n held.packet held.there).1) (known-far s none held) refl refl
+        (ap (λ (i : ℕ). u - i) (z ∙ ap (larger a b) (sym held.sized)))
 
     -- the near store would take it
     far-room : make_no a n size ≡ None
     far-room =
-        let fit = s.fit t.live in
-        let p = fit.far n t.packet t.there in
-        let z = t.sized in
+        let fit = s.fit held.live in
+        let p = fit.far n held.packet held.there in
+        let z = held.sized in
         let v = used-merged (larger a b) a.packets b.packets fit.apart in
-        let w : larger a b size ≤ used (larger a b) b.packets = subst (λ (i : ℕ). larger a b i ≤ used (larger a b) b.packets) t.sized (used-member (larger a b) n t.packet b.packets t.there) in
+        let w : larger a b size ≤ used (larger a b) b.packets = subst (λ (i : ℕ). larger a b i ≤ used (larger a b) b.packets) held.sized (used-member (larger a b) n held.packet b.packets held.there) in
         let m = used_mono a.need (larger a b) (λ i. omega arith) a.packets in
         let sum = fit.sum in
         let within = fit.within in
@@ -307,15 +309,23 @@ module _ {a b : Meaning} {clean : Bool} {k u : ℕ} (s : Stands a b clean k u) {
     pub far_move : {a' b' : Meaning} {h : ℕ} {r : Result Handed Question} → h ≤ k → Moved b b' a a' n size h r
         → (r ≡ hand_answer (split_meaning a b clean) n) × Next a' b' clean k u (hand_after (split_meaning a b clean) n h)
     far_move {h = h} le m =
-        let v = m t.packet t.there t.sized far-room in
-        (
-          v.0 ∙ (hand_alive (split_meaning a b clean) n t.packet (sym t.seen ∙ t.there) h).0,
-          handed_on s t.live (inserted n (with_holder h t.packet) a.packets) (removed n b.packets) v.2 v.1 (known-far s none t) (near le),
+        let v = m held.packet held.there held.sized far-room in (
+          v.0 ∙ (hand_alive (split_meaning a b clean) n held.packet (sym held.seen ∙ held.there) h).0,
+          handed_on s held.live (inserted n (with_holder h held.packet) a.packets) (removed n b.packets) v.2 v.1 (known-far s none held) (near le),
         )
 
 -- ---- a new packet
-module _ {a b : Meaning} {clean : Bool} {k u : ℕ} (s : Stands a b clean k u) (n : Name) (size : ℕ)
-    (gone : found (split_meaning a b clean) n ≡ None) (small : size ≤ min a.largest b.largest) (room : larger a b size ≤ (split_meaning a b clean).capacity - u) where
+module _ {a b : Meaning} {clean : Bool} {k u : ℕ} (s : Stands a b clean k u) (n : Name) (size : ℕ) (place : Result Place Question) (no : is_ok place ≡ false) (placed : Placed a b clean n place)
+    {largest capacity need : ℕ} (l : largest ≡ min a.largest b.largest) (fits : size ≤ largest) (counts : need ≡ larger a b size) (whole : capacity ≡ (split_meaning a b clean).capacity) (enough : need ≤ capacity - u) where
+  missing : found (split_meaning a b clean) n ≡ None
+  missing = unplaced a b n clean place no placed
+
+  small : size ≤ min a.largest b.largest
+  small = omega arith
+
+  room : larger a b size ≤ (split_meaning a b clean).capacity - u
+  room = omega arith
+
   -- only a split that was made over empty stores has room
   fresh : clean ≡ true
   fresh = go clean refl room (s.least size)
@@ -325,10 +335,10 @@ module _ {a b : Meaning} {clean : Bool} {k u : ℕ} (s : Stands a b clean k u) (
       go false c r l = absurd (let y : ⊥ = omega arith in y)
 
   gone-there : lookup n (merged a.packets b.packets) ≡ None
-  gone-there = subst (λ (t : Bool). found (split_meaning a b t) n ≡ None) fresh gone
+  gone-there = subst (λ (t : Bool). found (split_meaning a b t) n ≡ None) fresh missing
 
   room-there : u + larger a b size ≤ min a.capacity b.capacity
-  room-there = let c = ap (λ (t : Bool). (split_meaning a b t).capacity) fresh in let w = (s.fit fresh).within in omega arith
+  room-there = let r = room in let c = ap (λ (t : Bool). (split_meaning a b t).capacity) fresh in let w = (s.fit fresh).within in omega arith
 
   apart : (found a n ≡ None) × (found b n ≡ None)
   apart = go (found a n) refl
@@ -340,8 +350,9 @@ module _ {a b : Meaning} {clean : Bool} {k u : ℕ} (s : Stands a b clean k u) (
   granted : make_no (split_meaning a b clean) n size ≡ None
   granted =
       let z = s.sum in
-      let l = s.least size in
-      make_yes (split_meaning a b clean) n size gone small (omega arith)
+      let v = s.least size in
+      let r = room in
+      make_yes (split_meaning a b clean) n size missing small (omega arith)
 
   near-granted : make_no a n size ≡ None
   near-granted =
@@ -350,6 +361,7 @@ module _ {a b : Meaning} {clean : Bool} {k u : ℕ} (s : Stands a b clean k u) (
       let m = used_mono a.need (larger a b) (λ i. omega arith) a.packets in
       let sum = fit.sum in
       let r = room-there in
+      let w = small in
       make_yes a n size apart.0 (omega arith) (omega arith)
 
   far-granted : make_no b n size ≡ None
@@ -359,20 +371,22 @@ module _ {a b : Meaning} {clean : Bool} {k u : ℕ} (s : Stands a b clean k u) (
       let m = used_mono b.need (larger a b) (λ i. omega arith) b.packets in
       let sum = fit.sum in
       let r = room-there in
+      let w = small in
       make_yes b n size apart.1 (omega arith) (omega arith)
 
-  module _ {a' b' : Meaning} {x y : Packets} {near far : Option Packet} (l : Differs n near x a.packets) (r : Differs n far y b.packets) (e : a' ≡ with_packets a x) (f : b' ≡ with_packets b y) where
-    made : Lay k (new_packet n size) near far → {need : ℕ} → need ≡ larger a b size → Next a' b' clean k (u + need) (make_after (split_meaning a b clean) n size)
-    made lay {need} z =
+  module _ {a' b' : Meaning} {x y : Packets} {near far : Option Packet} (p : Differs n near x a.packets) (q : Differs n far y b.packets) (e : a' ≡ with_packets a x) (f : b' ≡ with_packets b y) where
+    made : Lay k (new_packet n size) near far → Next a' b' clean k (u + need) (make_after (split_meaning a b clean) n size)
+    made lay =
         let w : length (new_packet n size).bytes ≡ size = length-replicate size 0 in
-        let q : larger a b (length (new_packet n size).bytes) ≡ larger a b size = ap (larger a b) w in
-        let c = room-there in
+        let i : larger a b (length (new_packet n size).bytes) ≡ larger a b size = ap (larger a b) w in
+        let j = room-there in
+        let m = small in
         subst₂ (λ (c d : Meaning). Next c d clean k (u + need) (make_after (split_meaning a b clean) n size)) (sym e) (sym f)
-        (entered s fresh l r lay gone-there (omega arith) (u + need) (omega arith) (omega arith) (λ t. make_after (split_meaning a b t) n size)
-            (make_granted (split_meaning a b true) n size (subst (λ (t : Bool). make_no (split_meaning a b t) n size ≡ None) fresh granted)).1)
+        (entered s fresh p q lay gone-there (omega arith) (u + need) (omega arith) (omega arith) (λ t. make_after (split_meaning a b t) n size)
+        (make_granted (split_meaning a b true) n size (subst (λ (t : Bool). make_no (split_meaning a b t) n size ≡ None) fresh granted)).1)
 
-  pub near_make : {a' : Meaning} {need : ℕ} → n.maker ≤ k → need ≡ larger a b size → a' ≡ make_after a n size → Next a' b clean k (u + need) (make_after (split_meaning a b clean) n size)
-  near_make le z e = made (inserted n (new_packet n size) a.packets) (lacking n b.packets apart.1) (e ∙ sym (make_granted a n size near-granted).1) refl (near le) z
+  pub near_make : {a' : Meaning} → n.maker ≤ k → a' ≡ make_after a n size → Next a' b clean k (u + need) (make_after (split_meaning a b clean) n size)
+  near_make le e = made (inserted n (new_packet n size) a.packets) (lacking n b.packets apart.1) (e ∙ sym (make_granted a n size near-granted).1) refl (near le)
 
-  pub far_make : {b' : Meaning} {need : ℕ} → k < n.maker → need ≡ larger a b size → b' ≡ make_after b n size → Next a b' clean k (u + need) (make_after (split_meaning a b clean) n size)
-  far_make lt z e = made (lacking n a.packets apart.0) (inserted n (new_packet n size) b.packets) refl (e ∙ sym (make_granted b n size far-granted).1) (far lt) z
+  pub far_make : {b' : Meaning} → k < n.maker → b' ≡ make_after b n size → Next a b' clean k (u + need) (make_after (split_meaning a b clean) n size)
+  far_make lt e = made (lacking n a.packets apart.0) (inserted n (new_packet n size) b.packets) refl (e ∙ sym (make_granted b n size far-granted).1) (far lt)

@@ -2,10 +2,14 @@
 
 ghost use Rattle.std.specs.Prelude.{◌≡◌};
 ghost use Rattle.split.specs.Splits.{split_meaning};
+ghost use Rattle.store.specs.Meaning.{make_answer, make_after, discard_answer, discard_after, write_answer, write_after, hand_answer, hand_after};
 
 use crate::carry::transfer;
 use crate::split::{Place, Split};
 use store::{Handed, Name, Question, Store};
+
+// The number of this kind.
+const SPLIT: u8 = 3;
 
 impl<N: Store, F: Store> Store for Split<N, F> {
     ghost kind = { 3 };
@@ -13,10 +17,14 @@ impl<N: Store, F: Store> Store for Split<N, F> {
     ghost meaning = { λ s. split_meaning (N.meaning s.near) (F.meaning s.far) s.clean };
 
     fn kind() -> u8 {
-        3
+        SPLIT
     }
 
-    fn make(&mut self, name: Name, size: usize) -> Result<(), Question> {
+    fn make(&mut self, name: Name, size: usize) -> Result<(), Question>
+        ensures answer { result ≡ make_answer (⟦<Split<N, F> as Store>⟧.meaning self.old) name size }
+        ensures after { ⟦<Split<N, F> as Store>⟧.meaning self.new ≡ make_after (⟦<Split<N, F> as Store>⟧.meaning self.old) name size }
+        ensures bound { self.new.bound ≡ self.old.bound }
+    {
         if self.place(name).is_ok() {
             return Err(Question::Unused);
         }
@@ -35,7 +43,11 @@ impl<N: Store, F: Store> Store for Split<N, F> {
         }
     }
 
-    fn discard(&mut self, name: Name) -> Result<(), Question> {
+    fn discard(&mut self, name: Name) -> Result<(), Question>
+        ensures answer { result ≡ discard_answer (⟦<Split<N, F> as Store>⟧.meaning self.old) name }
+        ensures after { ⟦<Split<N, F> as Store>⟧.meaning self.new ≡ discard_after (⟦<Split<N, F> as Store>⟧.meaning self.old) name }
+        ensures bound { self.new.bound ≡ self.old.bound }
+    {
         match self.place(name)? {
             Place::Near(size) => {
                 self.used -= self.need(size);
@@ -48,7 +60,11 @@ impl<N: Store, F: Store> Store for Split<N, F> {
         }
     }
 
-    fn write(&mut self, name: Name, offset: usize, byte: u8) -> Result<(), Question> {
+    fn write(&mut self, name: Name, offset: usize, byte: u8) -> Result<(), Question>
+        ensures answer { result ≡ write_answer (⟦<Split<N, F> as Store>⟧.meaning self.old) name offset }
+        ensures after { ⟦<Split<N, F> as Store>⟧.meaning self.new ≡ write_after (⟦<Split<N, F> as Store>⟧.meaning self.old) name offset byte }
+        ensures bound { self.new.bound ≡ self.old.bound }
+    {
         match self.place(name)? {
             Place::Near(_) => self.near.write(name, offset, byte),
             Place::Far(_) => self.far.write(name, offset, byte),
@@ -56,7 +72,11 @@ impl<N: Store, F: Store> Store for Split<N, F> {
     }
 
     // The packet moves where the new holder's packets lie.
-    fn hand(&mut self, name: Name, holder: u8) -> Result<Handed, Question> {
+    fn hand(&mut self, name: Name, holder: u8) -> Result<Handed, Question>
+        ensures answer { result ≡ hand_answer (⟦<Split<N, F> as Store>⟧.meaning self.old) name }
+        ensures after { ⟦<Split<N, F> as Store>⟧.meaning self.new ≡ hand_after (⟦<Split<N, F> as Store>⟧.meaning self.old) name holder }
+        ensures bound { self.new.bound ≡ self.old.bound }
+    {
         match (self.place(name)?, holder <= self.bound) {
             (Place::Near(_), true) => self.near.hand(name, holder),
             (Place::Near(size), false) => {

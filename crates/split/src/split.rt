@@ -13,7 +13,7 @@ pub struct Split<N: Store, F: Store> {
     pub(crate) near: N,
     pub(crate) far: F,
     pub(crate) bound: u8,
-    // whether both stores held nothing when the split was made
+    // whether both stores held nothing when the split was made; no Option of `used`: make and discard would have to open it to add and take away
     pub(crate) clean: bool,
     // the sum of the split's own needs, which can be larger than those of a half
     pub(crate) used: usize,
@@ -30,7 +30,7 @@ pub(crate) enum Place {
 impl<N: Store, F: Store> Split<N, F> {
     /// A split with nothing in it. Over a store in use it takes no packet, and the packets below are not its own.
     pub fn new(near: N, far: F, bound: u8) -> Split<N, F>
-        ensures meaning { split_meaning (N.meaning result.near) (F.meaning result.far) result.clean ≡ new_split (N.meaning near) (F.meaning far) }
+        ensures meaning { ⟦<Split<N, F> as Store>⟧.meaning result ≡ new_split (N.meaning near) (F.meaning far) }
         ensures bound { result.bound ≡ bound }
     {
         let near_used = near.used();

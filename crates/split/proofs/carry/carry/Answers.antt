@@ -1,5 +1,4 @@
-use Rattle.std.proofs.Common.{◌≡◌, ℕ, ap, ◌∙◌, subst, arith}
-use Rattle.std.specs.Result.{result_unwrap_or}
+use Rattle.std.proofs.Common.{◌≡◌, ℕ, subst, arith}
 use Rattle.split.specs.Carry.{Carried}
 use Rattle.split.proofs.Carrying.{carried_none, carried_more, byte_read}
 use Rattle.split.proofs.carry.carry.Goals as goal
@@ -11,7 +10,7 @@ pub loop-i-preserved : goal.loop-i-preserved
 loop-i-preserved g c =
     let from = g.X.Store.meaning c.args.from.now in
     carried_more from (g.Y.Store.meaning c.args.to.now) (g.Y.Store.meaning c.loop-i.to) (g.Y.Store.meaning c.write.new.self) c.args.name c.args.size c.loop-i.i _ c.loop-i.invariant c.loop-i-test.true
-    (λ p e l. c.unwrap_or-byte.ensures ∙ ap (λ r. result_unwrap_or r 0) c.read.ensures ∙ byte_read from c.args.name c.loop-i.i p e (omega (arith, c.loop-i-test.true)))
+    (λ p e l. byte_read from c.args.name c.loop-i.i c.read.result _ c.unwrap_or-byte.ensures c.read.ensures p e (omega (arith, c.loop-i-test.true)))
     c.write.ensures.after
 
 pub returns : goal.returns

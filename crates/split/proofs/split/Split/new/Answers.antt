@@ -1,4 +1,4 @@
-use Rattle.std.proofs.Common.{◌≡◌, ◌&&◌, eqb, ◌∙◌}
+use Rattle.std.proofs.Common.{◌≡◌}
 use Rattle.split.specs.Splits.{unused}
 use Rattle.split.proofs.States.{new-meaning, new-stands, clean_yes, clean_no}
 use Rattle.split.proofs.split.Split.new.Goals as goal
