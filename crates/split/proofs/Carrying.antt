@@ -13,11 +13,11 @@ use Rattle.store.proofs.Maps.{insert-known, insert-twice, lookup-insert-same}
 use Rattle.split.specs.Carry.{mixed, Carried, Copied}
 
 mix_more : (i : ℕ) (ps qs : List ℕ) → i < length ps → i < length qs → set (take i ps ++ drop i qs) i (get_or ps i 0) ≡ take (suc i) ps ++ drop (suc i) qs
-mix_more zero [] qs h k = absurd (let y : ⊥ = omega arith in y)
-mix_more zero (p ∷ ps) [] h k = absurd (let y : ⊥ = omega arith in y)
+mix_more zero [] qs h k = absurd (omega arith)
+mix_more zero (p ∷ ps) [] h k = absurd (omega arith)
 mix_more zero (p ∷ ps) (q ∷ qs) h k = refl
-mix_more (suc i) [] qs h k = absurd (let y : ⊥ = omega arith in y)
-mix_more (suc i) (p ∷ ps) [] h k = absurd (let y : ⊥ = omega arith in y)
+mix_more (suc i) [] qs h k = absurd (omega arith)
+mix_more (suc i) (p ∷ ps) [] h k = absurd (omega arith)
 mix_more (suc i) (p ∷ ps) (q ∷ qs) h k = ap (λ (r : List ℕ). p ∷ r) (mix_more i ps qs (omega arith) (omega arith))
 
 pub carried_none : (from old : Meaning) (n : Name) (size : ℕ) → Carried from old old n size 0

@@ -73,9 +73,6 @@ lacking n m e = record { at = λ q. go q (same_or q n) }
     go q (inl w) = let t = same_true q n w in rw t (ap (λ (i : Name). lookup i m) w ∙ e)
     go q (inr f) = rw f
 
-pub none_some : {p : Packet} → ◌≡◌ {A = Option Packet} None (Some p) → ⊥
-none_some {p} w = let z : ◌≡◌ {A = ℕ} 0 1 = cc in omega arith
-
 -- a packet lies in the one of the two maps that its holder says
 pub data Lay (k : ℕ) (p : Packet) : Option Packet → Option Packet → Type 0 where
   near : p.holder ≤ k → Lay k p (Some p) None
@@ -91,14 +88,14 @@ module _ {k : ℕ} {p : Packet} where
 
   lay-apart : {x y : Option Packet} → Lay k p x y → (q : Packet) → x ≡ Some q → y ≡ None
   lay-apart (near h) q e = refl
-  lay-apart (far h) q e = absurd (none_some e)
+  lay-apart (far h) q e = cc
 
   lay-near : {x y : Option Packet} → Lay k p x y → (m : ℕ) → length p.bytes ≤ m → (q : Packet) → x ≡ Some q → (q.holder ≤ k) × (length q.bytes ≤ m)
   lay-near (near h) m l q e = subst (λ (r : Packet). (r.holder ≤ k) × (length r.bytes ≤ m)) (only e) (h, l)
-  lay-near (far h) m l q e = absurd (none_some e)
+  lay-near (far h) m l q e = cc
 
   lay-far : {x y : Option Packet} → Lay k p x y → (m : ℕ) → length p.bytes ≤ m → (q : Packet) → y ≡ Some q → (k < q.holder) × (length q.bytes ≤ m)
-  lay-far (near h) m l q e = absurd (none_some e)
+  lay-far (near h) m l q e = cc
   lay-far (far h) m l q e = subst (λ (r : Packet). (k < r.holder) × (length r.bytes ≤ m)) (only e) (h, l)
 
 -- ---- the packet of one name changes in both maps, and nothing else
@@ -148,4 +145,4 @@ module _ {a b : Meaning} {k u : ℕ} (fit : Fit a b k u) {n : Name} {x y : Packe
   cut = packets_from_lookups _ _ λ q. (joined fit l r).at q ∙ sym (lookup-remove q n (merged a.packets b.packets))
 
   pub fits-cut : (v : ℕ) → v ≡ used (larger a b) (merged x y) → v ≤ min a.capacity b.capacity → Fit (with_packets a x) (with_packets b y) k v
-  fits-cut = fits fit l r (λ s e. absurd (none_some e)) (λ s e. absurd (none_some e)) (λ s e. absurd (none_some e))
+  fits-cut = fits fit l r (λ s e. cc) (λ s e. cc) (λ s e. cc)

@@ -16,16 +16,16 @@ use Rattle.split.specs.declared.split.Place.TheVariants.{Near, Far}
 use Rattle.split.specs.Carry.{Moved}
 use Rattle.split.specs.Places.{Lies, Placed}
 use Rattle.split.specs.Splits.{merged, larger, split_meaning, unused, new_split, Fit, Stands}
-use Rattle.split.proofs.Merging.{either, none_some, lookup-merged, used-merged, used_mono, used-member, Differs, inserted, removed, lacking, Lay, near, far, put, fits-put, cut, fits-cut}
+use Rattle.split.proofs.Merging.{either, lookup-merged, used-merged, used_mono, used-member, Differs, inserted, removed, lacking, Lay, near, far, put, fits-put, cut, fits-cut}
 
 -- ---- where a name's packet lies
 size_known : (o : Option Packet) (z : ℕ) → Ok z ≡ answer (alive_no o) (size_of o) → (p : Packet) × (o ≡ Some p) × (length p.bytes ≡ z)
-size_known None z e = absurd (let w : ◌≡◌ {A = ℕ} 0 1 = cc in let i : ⊥ = omega arith in i)
+size_known None z e = cc
 size_known (Some p) z e = (p, refl, (let w : length p.bytes ≡ z = cc in w))
 
 size_denied : (o : Option Packet) (q : Question) → Err q ≡ answer (alive_no o) (size_of o) → (q ≡ Alive) × (o ≡ None)
 size_denied None q e = ((let w : q ≡ Alive = cc in w), refl)
-size_denied (Some p) q e = absurd (let z : ◌≡◌ {A = ℕ} 0 1 = cc in let i : ⊥ = omega arith in i)
+size_denied (Some p) q e = cc
 
 module _ (a b : Meaning) (n : Name) (clean : Bool) where
   at-clean : clean ≡ true → found (split_meaning a b clean) n ≡ either (found a n) (found b n)
@@ -74,7 +74,7 @@ used_none w h m e = packets_equal m empty (go m.entries e)
   where
     go : (es : List Entry) → used_in w es ≡ 0 → es ≡ []
     go [] z = refl
-    go (x ∷ xs) z = let a = h (length x.packet.bytes) in absurd (let i : ⊥ = omega arith in i)
+    go (x ∷ xs) z = let a = h (length x.packet.bytes) in absurd (omega arith)
 
 module _ (a b : Meaning) (la : (i : ℕ) → 1 ≤ a.need i) (lb : (i : ℕ) → 1 ≤ b.need i) where
   both-empty : units a ≡ 0 → units b ≡ 0 → merged a.packets b.packets ≡ empty
@@ -84,7 +84,7 @@ module _ (a b : Meaning) (la : (i : ℕ) → 1 ≤ a.need i) (lb : (i : ℕ) →
       ∙ ap (λ (o : Option Packet). either o (lookup q empty)) (lookup-empty q)
 
   none_in : (m : Packets) → m ≡ empty → {X : Type 0} (q : Name) (p : Packet) → lookup q m ≡ Some p → X
-  none_in m z q p e = absurd (none_some (sym (ap (lookup q) z ∙ lookup-empty q) ∙ e))
+  none_in m z q p e = let w = sym (ap (lookup q) z ∙ lookup-empty q) ∙ e in cc
 
   new-fit : (k : ℕ) → units a ≡ 0 → units b ≡ 0 → Fit a b k 0
   new-fit k x y = record {
@@ -332,7 +332,7 @@ module _ {a b : Meaning} {clean : Bool} {k u : ℕ} (s : Stands a b clean k u) (
     where
       go : (t : Bool) → clean ≡ t → larger a b size ≤ (split_meaning a b t).capacity - u → 1 ≤ larger a b size → clean ≡ true
       go true c r l = c
-      go false c r l = absurd (let y : ⊥ = omega arith in y)
+      go false c r l = absurd (omega arith)
 
   gone-there : lookup n (merged a.packets b.packets) ≡ None
   gone-there = subst (λ (t : Bool). found (split_meaning a b t) n ≡ None) fresh missing
@@ -345,7 +345,7 @@ module _ {a b : Meaning} {clean : Bool} {k u : ℕ} (s : Stands a b clean k u) (
     where
       go : (o : Option Packet) → found a n ≡ o → (found a n ≡ None) × (found b n ≡ None)
       go None e = (e, ap (λ (o : Option Packet). either o (found b n)) (sym e) ∙ sym (lookup-merged n a.packets b.packets) ∙ gone-there)
-      go (Some p) e = absurd (none_some (sym gone-there ∙ lookup-merged n a.packets b.packets ∙ ap (λ (o : Option Packet). either o (found b n)) e))
+      go (Some p) e = let w = sym gone-there ∙ lookup-merged n a.packets b.packets ∙ ap (λ (o : Option Packet). either o (found b n)) e in cc
 
   granted : make_no (split_meaning a b clean) n size ≡ None
   granted =

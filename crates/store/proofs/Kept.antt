@@ -1,5 +1,5 @@
 -- What the calls of a store answer and leave that keeps its packets in a table of rows, no two of one name.
-use Rattle.std.proofs.Common.{◌≡◌, ℕ, ◌+◌, ◌<◌, ◌≤◌, true, List, length, set, is_some, Some, None, Ok, Option, sym, refl, ap, ◌∙◌, arith}
+use Rattle.std.proofs.Common.{◌≡◌, ℕ, ◌+◌, ◌<◌, ◌≤◌, true, List, length, set, is_some, Some, None, Ok, Option, sym, refl, ap, ◌∙◌}
 use Rattle.store.specs.declared.name.Name.{Name}
 use Rattle.store.specs.Packets.{Packet, Packets, lookup, insert, new_packet, with_byte, with_holder}
 use Rattle.store.specs.Meaning.{Meaning, with_packets, found, units, make_answer, make_after, discard_after, hand_after, write_after}
@@ -15,7 +15,7 @@ no_place n rs e = go (place (Some n) rs) refl
     go None p = p
     go (Some i) p =
         let z = lookup_holding n rs i blank (holds_from n rs i p) in
-        let y : ◌≡◌ {A = ℕ} 0 1 = cc in absurd (let i : ⊥ = omega arith in i)
+        cc
 
 -- what a search says
 pub sought : (rs : List Row) (n : Name) (o : Option ℕ) → o ≡ place (Some n) rs → Sought rs n o
