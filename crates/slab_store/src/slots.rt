@@ -46,6 +46,15 @@ impl Slots<'_> {
         let start = SLOT * slot;
         clear(&mut self.memory[start..start + size]);
     }
+
+    /// What the table keeps of the packet in a slot.
+    fn label(&self, slot: usize) -> Label
+        requires { is_some (row_at (rows self.now) slot).named ≡ true }
+        ensures within { slot < length self.now.slots.now }
+        ensures kept { label_at self.now.slots.now slot ≡ Some result }
+    {
+        self.slots[slot].label.unwrap()
+    }
 }
 
 impl Lent for Slots<'_> {
@@ -86,28 +95,18 @@ impl Lent for Slots<'_> {
     }
 
     fn hand(&mut self, slot: usize, holder: u8) {
-        let record = self.slots[slot];
-        if let Some(label) = record.label {
-            self.slots[slot] = Slot {
-                label: Some(Label { holder, ..label }),
-            };
-        }
+        let label = self.label(slot);
+        self.slots[slot] = Slot {
+            label: Some(Label { holder, ..label }),
+        };
     }
 
     fn size(&self, slot: usize) -> usize {
-        let record = self.slots[slot];
-        match record.label {
-            Some(label) => label.size,
-            None => 0,
-        }
+        self.label(slot).size
     }
 
     fn holder(&self, slot: usize) -> u8 {
-        let record = self.slots[slot];
-        match record.label {
-            Some(label) => label.holder,
-            None => 0,
-        }
+        self.label(slot).holder
     }
 
     fn byte(&self, slot: usize, offset: usize) -> u8 {

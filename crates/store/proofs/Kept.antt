@@ -20,7 +20,7 @@ no_place n rs e = go (place (Some n) rs) refl
     go None p = p
     go (Some i) p =
         let z = lookup_holding n rs i blank (holds_from n rs i p) in
-        let y : ◌≡◌ {A = ℕ} 0 1 = cc in absurd (let i : ⊥ = omega arith in i)
+        cc
 
 -- what a search says
 pub sought : (rs : List Row) (n : Name) (o : Option ℕ) → o ≡ place (Some n) rs → Sought rs n o
