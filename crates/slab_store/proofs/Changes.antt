@@ -13,7 +13,7 @@ use Rattle.store.proofs.Blocks.{take-set, block-set, others-set, block-put, othe
 use Rattle.store.proofs.Gathered.{free_from, total_full, total-free}
 use Rattle.slab_store.specs.declared.slot.Slot.{Slot}
 use Rattle.slab_store.specs.Labels.{name_of}
-use Rattle.slab_store.specs.Slabs.{row, slab_rows, empty_slab, one_if, taken}
+use Rattle.slab_store.specs.Slabs.{row, slab_rows, label_at, empty_slab, one_if, taken}
 
 named-row : (o : Option Label) (bytes : List ℕ) → (row o bytes).named ≡ name_of o
 named-row None bytes = refl
@@ -70,6 +70,19 @@ rows_change ss memory changed i s h others =
         ∙ sym (get_or-set_other (slab_rows ss memory) i k _ d n)
 
 -- ---- rows by their places
+nowhere : Slot
+nowhere = record { label = None; small = λ l e. absurd (let z : ◌≡◌ {A = ℕ} 0 1 = cc in (let y : ⊥ = omega arith in y)) }
+
+pub label-at : (ss : List Slot) (i : ℕ) (x : Slot) → i < length ss → label_at ss i ≡ (get_or ss i x).label
+label-at [] i x h = absurd (let y : ⊥ = omega arith in y)
+label-at (s ∷ ss) zero x h = refl
+label-at (s ∷ ss) (suc i) x h = label-at ss i x (omega arith)
+
+row_is : (ss : List Slot) (memory : List ℕ) (i : ℕ) → row_at (slab_rows ss memory) i ≡ row (label_at ss i) (block 256 i memory)
+row_is [] memory i = refl
+row_is (s ∷ ss) memory zero = refl
+row_is (s ∷ ss) memory (suc i) = row_is ss (drop 256 memory) i ∙ ap (row (label_at ss i)) (block-next i memory)
+
 some_is : (o : Option Label) (bytes : List ℕ) → is_some (row o bytes).named ≡ true → (l : Label) × (o ≡ Some l)
 some_is None bytes h = absurd (true≢false (sym h))
 some_is (Some l) bytes h = (l, refl)
@@ -78,122 +91,114 @@ bytes_some : (o : Option Label) (bytes : List ℕ) (k : ℕ) → k < length (row
 bytes_some None bytes k h = absurd (let y : ⊥ = omega arith in y)
 bytes_some (Some l) bytes k h = refl
 
--- what is alive lies in the table, and so does what has bytes
+pub small_at : (ss : List Slot) (i : ℕ) (l : Label) → label_at ss i ≡ Some l → l.size ≤ 256
+small_at [] i l e = absurd (let z : ◌≡◌ {A = ℕ} 0 1 = cc in (let y : ⊥ = omega arith in y))
+small_at (s ∷ ss) zero l e = s.small l e
+small_at (s ∷ ss) (suc i) l e = small_at ss i l e
+
+-- what is alive lies in the table and has a label, and so does what has bytes
 pub alive-within : (ss : List Slot) (memory : List ℕ) (i : ℕ) → is_some (row_at (slab_rows ss memory) i).named ≡ true → i < length ss
 alive-within [] memory i h = absurd (true≢false (sym h))
 alive-within (s ∷ ss) memory zero h = omega arith
 alive-within (s ∷ ss) memory (suc i) h = let r = alive-within ss (drop 256 memory) i h in omega arith
 
-pub bytes-alive : (ss : List Slot) (memory : List ℕ) (i k : ℕ) → k < length (row_at (slab_rows ss memory) i).packet.bytes → is_some (row_at (slab_rows ss memory) i).named ≡ true
-bytes-alive [] memory i k h = absurd (let y : ⊥ = omega arith in y)
-bytes-alive (s ∷ ss) memory zero k h = bytes_some s.label (take 256 memory) k h
-bytes-alive (s ∷ ss) memory (suc i) k h = bytes-alive ss (drop 256 memory) i k h
+pub label_is : (ss : List Slot) (memory : List ℕ) (i : ℕ) → is_some (row_at (slab_rows ss memory) i).named ≡ true → (l : Label) × (label_at ss i ≡ Some l)
+label_is ss memory i a = some_is (label_at ss i) (block 256 i memory) (ap (λ (r : Row). is_some r.named) (sym (row_is ss memory i)) ∙ a)
 
-module _ (ss : List Slot) (memory : List ℕ) (i : ℕ) (x : Slot) where
-  abbrev at : Slot
-  at = get_or ss i x
+bytes-alive : (ss : List Slot) (memory : List ℕ) (i k : ℕ) → k < length (row_at (slab_rows ss memory) i).packet.bytes → is_some (row_at (slab_rows ss memory) i).named ≡ true
+bytes-alive ss memory i k h =
+    let e = ap (λ (r : Row). length r.packet.bytes) (row_is ss memory i) in
+    ap (λ (r : Row). is_some r.named) (row_is ss memory i) ∙ bytes_some (label_at ss i) (block 256 i memory) k (omega arith)
+
+module _ (ss : List Slot) (memory : List ℕ) (i : ℕ) (l : Label) (e : label_at ss i ≡ Some l) where
+  row_some : row_at (slab_rows ss memory) i ≡ row_of l.name (packet l.holder (take l.size (block 256 i memory)))
+  row_some = row_is ss memory i ∙ ap (λ o. row o (block 256 i memory)) e
+
+  pub holder_is : l.holder ≡ (row_at (slab_rows ss memory) i).packet.holder
+  holder_is = ap (λ (r : Row). r.packet.holder) (sym row_some)
 
   module _ (h : i < length ss) where
-    pub row_is : row_at (slab_rows ss memory) i ≡ row at.label (block 256 i memory)
-    row_is = get_or-rows ss memory i blank x h
+    -- another holder
+    pub rows_hand : (holder : ℕ) (s : Slot) → s.label ≡ Some (record { name = l.name; holder = holder; size = l.size })
+        → slab_rows (set ss i s) memory ≡ set (slab_rows ss memory) i (with_packet (with_holder holder) (row_at (slab_rows ss memory) i))
+    rows_hand holder s n =
+        rows_change ss memory memory i s h (λ j d. refl)
+        ∙ ap (set (slab_rows ss memory) i) (ap (λ o. row o (block 256 i memory)) n ∙ ap (with_packet (with_holder holder)) (sym row_some))
 
-    -- a slot that is alive has a label
-    pub none_is : is_some (row_at (slab_rows ss memory) i).named ≡ true → at.label ≡ None → ⊥
-    none_is a e = true≢false (sym a ∙ ap (λ (r : Row). is_some r.named) (row_is ∙ ap (λ o. row o (block 256 i memory)) e))
+    module _ (whole : length memory ≡ 256 * length ss) where
+      length_full : length (block 256 i memory) ≡ 256
+      length_full = simp (length-take, length-drop) (omega arith)
 
-    pub label_is : is_some (row_at (slab_rows ss memory) i).named ≡ true → (l : Label) × (at.label ≡ Some l)
-    label_is a = some_is at.label (block 256 i memory) (ap (λ (r : Row). is_some r.named) (sym row_is) ∙ a)
+      pub size_is : l.size ≡ length (row_at (slab_rows ss memory) i).packet.bytes
+      size_is =
+          let s = small_at ss i l e in
+          let b = length_full in
+          let t : length (take l.size (block 256 i memory)) ≡ min l.size (length (block 256 i memory)) = length-take l.size (block 256 i memory) in
+          let f : l.size ≡ length (take l.size (block 256 i memory)) = omega arith in
+          f ∙ ap (λ (r : Row). length r.packet.bytes) (sym row_some)
 
-    module _ (l : Label) (e : at.label ≡ Some l) where
-      row_some : row_at (slab_rows ss memory) i ≡ row_of l.name (packet l.holder (take l.size (block 256 i memory)))
-      row_some = row_is ∙ ap (λ o. row o (block 256 i memory)) e
+      module _ (off : ℕ) (lt : off < length (row_at (slab_rows ss memory) i).packet.bytes) where
+        within : (off < 256) × (256 * i + off < length memory)
+        within =
+            let s = small_at ss i l e in
+            let e = size_is in
+            (omega arith, omega arith)
 
-      pub holder_is : l.holder ≡ (row_at (slab_rows ss memory) i).packet.holder
-      holder_is = ap (λ (r : Row). r.packet.holder) (sym row_some)
+        byte : get_or memory (256 * i + off) 0 ≡ get_or (row_at (slab_rows ss memory) i).packet.bytes off 0
+        byte =
+            let e = size_is in
+            let s : off < l.size = omega arith in
+            sym (ap (λ (r : Row). get_or r.packet.bytes off 0) row_some
+            ∙ get_or-take l.size (block 256 i memory) off 0 s
+            ∙ get_or-take 256 (drop (256 * i) memory) off 0 within.0
+            ∙ get_or-drop (256 * i) memory off 0)
 
-      -- another holder
-      pub rows_hand : (holder : ℕ) (s : Slot) → s.label ≡ Some (record { name = l.name; holder = holder; size = l.size })
-          → slab_rows (set ss i s) memory ≡ set (slab_rows ss memory) i (with_packet (with_holder holder) (row_at (slab_rows ss memory) i))
-      rows_hand holder s n =
-          rows_change ss memory memory i s h (λ j d. refl)
-          ∙ ap (set (slab_rows ss memory) i) (ap (λ o. row o (block 256 i memory)) n ∙ ap (with_packet (with_holder holder)) (sym row_some))
+        put : (b : ℕ) → slab_rows ss (set memory (256 * i + off) b) ≡ set (slab_rows ss memory) i (with_packet (with_byte off b) (row_at (slab_rows ss memory) i))
+        put b =
+            let w = within.0 in
+            ap (λ (l : List Slot). slab_rows l (set memory (256 * i + off) b)) (sym (set-get_or ss i nowhere))
+            ∙ rows_change ss memory (set memory (256 * i + off) b) i (get_or ss i nowhere) h (others-set 256 i off b memory w)
+            ∙ ap (λ o. set (slab_rows ss memory) i (row o (block 256 i (set memory (256 * i + off) b)))) (sym (label-at ss i nowhere h) ∙ e)
+            ∙ ap (λ (bs : List ℕ). set (slab_rows ss memory) i (row_of l.name (packet l.holder bs)))
+            (ap (take l.size) (block-set 256 i off b memory w) ∙ take-set l.size off b (block 256 i memory))
+            ∙ ap (λ (r : Row). set (slab_rows ss memory) i (with_packet (with_byte off b) r)) (sym row_some)
 
-      module _ (whole : length memory ≡ 256 * length ss) where
-        length_full : length (block 256 i memory) ≡ 256
-        length_full = simp (length-take, length-drop) (omega arith)
+module _ (ss : List Slot) (memory : List ℕ) (i : ℕ) (h : i < length ss) where
+  -- a slot without a packet
+  pub rows_release : (s : Slot) → s.label ≡ None → slab_rows (set ss i s) memory ≡ set (slab_rows ss memory) i blank
+  rows_release s n = rows_change ss memory memory i s h (λ j d. refl) ∙ ap (λ o. set (slab_rows ss memory) i (row o (block 256 i memory))) n
 
-        pub size_is : l.size ≡ length (row_at (slab_rows ss memory) i).packet.bytes
-        size_is =
-            let s : l.size ≤ 256 = at.small l e in
-            let b = length_full in
-            let t : length (take l.size (block 256 i memory)) ≡ min l.size (length (block 256 i memory)) = length-take l.size (block 256 i memory) in
-            let f : l.size ≡ length (take l.size (block 256 i memory)) = omega arith in
-            f ∙ ap (λ (r : Row). length r.packet.bytes) (sym row_some)
-
-        module _ (off : ℕ) (lt : off < length (row_at (slab_rows ss memory) i).packet.bytes) where
-          within : (off < 256) × (256 * i + off < length memory)
-          within =
-              let s : l.size ≤ 256 = at.small l e in
-              let e = size_is in
-              (omega arith, omega arith)
-
-          byte : get_or memory (256 * i + off) 0 ≡ get_or (row_at (slab_rows ss memory) i).packet.bytes off 0
-          byte =
-              let e = size_is in
-              let s : off < l.size = omega arith in
-              sym (ap (λ (r : Row). get_or r.packet.bytes off 0) row_some
-              ∙ get_or-take l.size (block 256 i memory) off 0 s
-              ∙ get_or-take 256 (drop (256 * i) memory) off 0 within.0
-              ∙ get_or-drop (256 * i) memory off 0)
-
-          put : (b : ℕ) → slab_rows ss (set memory (256 * i + off) b) ≡ set (slab_rows ss memory) i (with_packet (with_byte off b) (row_at (slab_rows ss memory) i))
-          put b =
-              let w = within.0 in
-              ap (λ (l : List Slot). slab_rows l (set memory (256 * i + off) b)) (sym (set-get_or ss i x))
-              ∙ rows_change ss memory (set memory (256 * i + off) b) i at h (others-set 256 i off b memory w)
-              ∙ ap (λ o. set (slab_rows ss memory) i (row o (block 256 i (set memory (256 * i + off) b)))) e
-              ∙ ap (λ (bs : List ℕ). set (slab_rows ss memory) i (row_of l.name (packet l.holder bs)))
-              (ap (take l.size) (block-set 256 i off b memory w) ∙ take-set l.size off b (block 256 i memory))
-              ∙ ap (λ (r : Row). set (slab_rows ss memory) i (with_packet (with_byte off b) r)) (sym row_some)
-
-    -- a slot without a packet
-    pub rows_release : (s : Slot) → s.label ≡ None → slab_rows (set ss i s) memory ≡ set (slab_rows ss memory) i blank
-    rows_release s n = rows_change ss memory memory i s h (λ j d. refl) ∙ ap (λ o. set (slab_rows ss memory) i (row o (block 256 i memory))) n
-
-    -- zeros in the front of its bytes, and a record of them
-    pub rows_fill : length memory ≡ 256 * length ss → (n : Name) (holder size : ℕ) (s : Slot) → size ≤ 256 → s.label ≡ Some (record { name = n; holder = holder; size = size })
-        → (ss' : List Slot) (changed : List ℕ) → ss' ≡ ss → changed ≡ zeroed (256 * i) size memory
-        → slab_rows (set ss' i s) changed ≡ set (slab_rows ss memory) i (row_of n (packet holder (replicate size 0)))
-    rows_fill whole n holder size s small z ss' changed same clear =
-        let l : length (replicate {A = ℕ} size 0) ≡ size = length-replicate size 0 in
-        let f : 256 * i + size ≤ length memory = omega arith in
-        (λ t. slab_rows (set (same t) i s) (clear t))
-        ∙ rows_change ss memory (zeroed (256 * i) size memory) i s h (others_put 256 i size memory (replicate size 0) small l f)
-        ∙ ap (λ o. set (slab_rows ss memory) i (row o (block 256 i (zeroed (256 * i) size memory)))) z
-        ∙ ap (λ (bs : List ℕ). set (slab_rows ss memory) i (row_of n (packet holder bs))) (block-put 256 i size memory (replicate size 0) small l f)
+  -- zeros in the front of its bytes, and a record of them
+  pub rows_fill : length memory ≡ 256 * length ss → (n : Name) (holder size : ℕ) (s : Slot) → size ≤ 256 → s.label ≡ Some (record { name = n; holder = holder; size = size })
+      → (ss' : List Slot) (changed : List ℕ) → ss' ≡ ss → changed ≡ zeroed (256 * i) size memory
+      → slab_rows (set ss' i s) changed ≡ set (slab_rows ss memory) i (row_of n (packet holder (replicate size 0)))
+  rows_fill whole n holder size s small z ss' changed same clear =
+      let l : length (replicate {A = ℕ} size 0) ≡ size = length-replicate size 0 in
+      let f : 256 * i + size ≤ length memory = omega arith in
+      (λ t. slab_rows (set (same t) i s) (clear t))
+      ∙ rows_change ss memory (zeroed (256 * i) size memory) i s h (others_put 256 i size memory (replicate size 0) small l f)
+      ∙ ap (λ o. set (slab_rows ss memory) i (row o (block 256 i (zeroed (256 * i) size memory)))) z
+      ∙ ap (λ (bs : List ℕ). set (slab_rows ss memory) i (row_of n (packet holder bs))) (block-put 256 i size memory (replicate size 0) small l f)
 
 pub whole_fill : (ss : List Slot) (memory : List ℕ) (i size : ℕ) → i < length ss → size ≤ 256 → length memory ≡ 256 * length ss → length (zeroed (256 * i) size memory) ≡ 256 * length ss
 whole_fill ss memory i size h small whole = simp (length-append, length-replicate, length-take, length-drop) (omega arith)
 
 -- a byte of a packet: where it lies, what it is, and what another one leaves
 module _ (ss : List Slot) (memory : List ℕ) (i : ℕ) (whole : length memory ≡ 256 * length ss) (off : ℕ) (lt : off < length (row_at (slab_rows ss memory) i).packet.bytes) where
-  nowhere : Slot
-  nowhere = record { label = None; small = λ l e. absurd (let z : ◌≡◌ {A = ℕ} 0 1 = cc in (let y : ⊥ = omega arith in y)) }
-
   there : i < length ss
   there = alive-within ss memory i (bytes-alive ss memory i off lt)
 
-  label : (l : Label) × ((get_or ss i nowhere).label ≡ Some l)
-  label = label_is ss memory i nowhere there (bytes-alive ss memory i off lt)
+  label : (l : Label) × (label_at ss i ≡ Some l)
+  label = label_is ss memory i (bytes-alive ss memory i off lt)
 
   pub bytes-within : (off < 256) × (256 * i + off < length memory)
-  bytes-within = within ss memory i nowhere there label.0 label.1 whole off lt
+  bytes-within = within ss memory i label.0 label.1 there whole off lt
 
   pub byte_is : get_or memory (256 * i + off) 0 ≡ get_or (row_at (slab_rows ss memory) i).packet.bytes off 0
-  byte_is = byte ss memory i nowhere there label.0 label.1 whole off lt
+  byte_is = byte ss memory i label.0 label.1 there whole off lt
 
   pub rows-put : (b : ℕ) → slab_rows ss (set memory (256 * i + off) b) ≡ set (slab_rows ss memory) i (with_packet (with_byte off b) (row_at (slab_rows ss memory) i))
-  rows-put b = put ss memory i nowhere there label.0 label.1 whole off lt b
+  rows-put b = put ss memory i label.0 label.1 there whole off lt b
 
 -- ---- a loop over the records
 pub total-rows : (ss : List Slot) (memory : List ℕ) → total (λ _. 1) (slab_rows ss memory) ≡ taken ss

@@ -1,5 +1,5 @@
 -- A slab's table and memory, as rows: slot i has the 256 bytes from 256 * i on.
-use Rattle.std.specs.Prelude.{◌≡◌, ℕ, ◌+◌, ◌*◌, List, [], ◌∷◌, length, take, drop, Some, None, Option}
+use Rattle.std.specs.Prelude.{◌≡◌, ℕ, zero, suc, ◌+◌, ◌*◌, List, [], ◌∷◌, length, take, drop, Some, None, Option}
 use Rattle.slab_store.specs.declared.slot.Slot.{Slot}
 use Rattle.slab_store.specs.declared.slots.Slots.{Slots}
 use Rattle.store.specs.declared.label.Label.{Label}
@@ -18,6 +18,12 @@ slab_rows (s ∷ ss) memory = row s.label (take 256 memory) ∷ slab_rows ss (dr
 
 abbrev pub rows : Slots → List Row
 rows l = slab_rows l.slots.now l.memory.now
+
+-- the label in slot i, if it has one
+abbrev pub label_at : List Slot → ℕ → Option Label
+label_at [] i = None
+label_at (s ∷ ss) zero = s.label
+label_at (s ∷ ss) (suc i) = label_at ss i
 
 -- each slot has its bytes, and there are no others
 abbrev pub Whole : Slots → Type 0

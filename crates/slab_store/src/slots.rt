@@ -1,9 +1,10 @@
 //! Slots of the caller's memory, and the store over them.
-ghost use Rattle.std.specs.Prelude.{◌≡◌, ◌+◌, ◌*◌, ◌/◌, ◌≤◌, min, length};
+ghost use Rattle.std.specs.Prelude.{◌≡◌, ◌+◌, ◌*◌, ◌/◌, ◌<◌, ◌≤◌, min, true, length, is_some, Some};
 ghost use Rattle.std.proofs.Common.{arith};
 ghost use Rattle.std.proofs.Props.{props};
-ghost use Rattle.slab_store.specs.Slabs.{rows, Whole, empty_slab};
+ghost use Rattle.slab_store.specs.Slabs.{rows, Whole, empty_slab, label_at};
 ghost use Rattle.store.specs.Blocks.{zeroed};
+ghost use Rattle.store.specs.Rows.{row_at};
 
 use crate::slot::Slot;
 use store::{Label, Lent, LentStore, Name, Store, clear, find};
@@ -52,6 +53,7 @@ impl Slots<'_> {
         requires { is_some (row_at (rows self.now) slot).named ≡ true }
         ensures within { slot < length self.now.slots.now }
         ensures kept { label_at self.now.slots.now slot ≡ Some result }
+        ensures small { result.size ≤ 256 }
     {
         self.slots[slot].label.unwrap()
     }

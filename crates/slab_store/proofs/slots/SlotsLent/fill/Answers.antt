@@ -33,11 +33,10 @@ returns c =
     let w = free-within (rows l) c.args.slot (free_from (rows l) c.args.slot (sym c.requires.vacant.0)) in
     let n = length-rows l.slots.now l.memory.now in
     let b : c.args.slot < length l.slots.now = omega arith in
-    let s = c.index-self-slot.result in
     record {
       sound =
           ap length c.wipe.ensures.memory
           ∙ whole_fill l.slots.now l.memory.now c.args.slot c.args.size b c.requires.small c.requires.sound
           ∙ ap (λ (k : ℕ). 256 * k) (sym (length-set c.wipe.new.self.slots.now c.args.slot _ ∙ ap length c.wipe.ensures.slots));
-      filled = rows_fill l.slots.now l.memory.now c.args.slot s b c.requires.sound c.args.name c.args.name.maker c.args.size _ c.requires.small refl _ _ c.wipe.ensures.slots c.wipe.ensures.memory;
+      filled = rows_fill l.slots.now l.memory.now c.args.slot b c.requires.sound c.args.name c.args.name.maker c.args.size _ c.requires.small refl _ _ c.wipe.ensures.slots c.wipe.ensures.memory;
     }

@@ -12,4 +12,4 @@ bounds-self-slot c = alive-within c.args.self.now.slots.now c.args.self.now.memo
 pub returns-clause-released : goal.returns-clause-released
 returns-clause-released c =
     let l = c.args.self.now in
-    rows_release l.slots.now l.memory.now c.args.slot c.index-self-slot.result (alive-within l.slots.now l.memory.now c.args.slot c.requires.alive) _ refl
+    rows_release l.slots.now l.memory.now c.args.slot (alive-within l.slots.now l.memory.now c.args.slot c.requires.alive) _ refl

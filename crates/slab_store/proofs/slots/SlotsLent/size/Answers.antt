@@ -1,22 +1,7 @@
-use Rattle.std.proofs.Common.{rules}
-use Rattle.slab_store.proofs.Changes.{alive-within, none_is, size_is}
+use Rattle.slab_store.proofs.Changes.{size_is}
 use Rattle.slab_store.proofs.slots.SlotsLent.size.Goals as goal
 
-pub offset_bounds-self-slot : goal.offset_bounds-self-slot
-offset_bounds-self-slot c =
-    let w = alive-within c.args.self.now.slots.now c.args.self.now.memory.now c.args.slot c.requires.alive in search rules
-
-pub bounds-self-slot : goal.bounds-self-slot
-bounds-self-slot c = alive-within c.args.self.now.slots.now c.args.self.now.memory.now c.args.slot c.requires.alive
-
-pub returns-in-Some : goal.returns-in-Some
-returns-in-Some c =
+pub returns : goal.returns
+returns c =
     let l = c.args.self.now in
-    let w = alive-within l.slots.now l.memory.now c.args.slot c.requires.alive in
-    size_is l.slots.now l.memory.now c.args.slot c.index-self-slot.result w c.in-Some.label c.in-Some.is c.requires.sound
-
-pub returns-in-None : goal.returns-in-None
-returns-in-None c =
-    let l = c.args.self.now in
-    let w = alive-within l.slots.now l.memory.now c.args.slot c.requires.alive in
-    absurd (none_is l.slots.now l.memory.now c.args.slot c.index-self-slot.result w c.requires.alive c.in-None.is)
+    size_is l.slots.now l.memory.now c.args.slot c.label.result c.label.ensures.kept c.label.ensures.within c.requires.sound
