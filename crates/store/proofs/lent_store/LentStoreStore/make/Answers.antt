@@ -1,8 +1,5 @@
-use Rattle.std.proofs.Common.{◌≡◌, ◌≤◌, length, Some, None, sym, ap, ◌∙◌, arith}
-use Rattle.store.specs.declared.denial.Question.TheVariants.{Room}
-use Rattle.store.specs.Meaning.{Meaning, answer, after, found, make_no}
-use Rattle.store.specs.Packets.{insert, new_packet}
-use Rattle.store.specs.Rows.{meaning_of}
+use Rattle.std.proofs.Common.{◌≤◌, sym, ap, ◌∙◌, arith}
+use Rattle.store.specs.Meaning.{answer}
 use Rattle.store.proofs.Kept.{gone_from, kept_make, kept_full}
 use Rattle.store.proofs.lent_store.LentStoreStore.make.Goals as goal
 
