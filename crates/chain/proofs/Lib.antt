@@ -1,4 +1,5 @@
 mod Changes
+mod Joined
 mod Linked
+mod Rows
 mod Wiping
-mod Stored

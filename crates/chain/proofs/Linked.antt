@@ -1,12 +1,13 @@
 -- Chains of cells: what a change of one link, of some bytes or of one head leaves of the others.
-use Rattle.std.proofs.Common.{◌≡◌, ℕ, zero, suc, ◌+◌, ◌<◌, ◌≤◌, ◌≢◌, ◌⊎◌, List, [], ◌∷◌, ◌++◌, length, get_or, take, set, Some, None, Option, sym, refl, ap, ◌∙◌, inl, inr, arith, get_or-set_other, get_or-set_same}
+use Rattle.std.proofs.Common.{◌≡◌, ℕ, zero, suc, ◌+◌, ◌<◌, ◌≤◌, ◌≢◌, ◌⊎◌, List, [], ◌∷◌, ◌++◌, length, take, set, Some, None, Option, sym, refl, ap, ◌∙◌, inl, inr, arith, get_or-set_other, get_or-set_same}
 use Rattle.std.proofs.lemmas.Bool.{cases_lt, eq-eqb, ne_eqb, lt-ltb, le-ltb}
-use Rattle.store.specs.declared.name.Name.{Name}
+use Rattle.std.proofs.lemmas.List.Sums.{sum_by-cons}
 use Rattle.chain.specs.declared.head.Head.{Head}
+use Rattle.chain.specs.declared.head.Stored.{Stored}
 use Rattle.chain.specs.Cells.{step, nth_cell, cells, cell_bytes, joined, hit, count, within}
 use Rattle.chain.specs.Chains.{chain_need, head_row, chain_rows, cells_of, counts, need_if, needs_of}
 use Rattle.store.specs.Packets.{packet}
-use Rattle.store.specs.Rows.{Row, row_of}
+use Rattle.store.specs.Rows.{row_of}
 
 -- ---- counting
 pub hit_same : (c d : ℕ) → c ≡ d → hit c d ≡ 1
@@ -37,7 +38,7 @@ inside c n k h w = go (cases_lt c n)
   where
     go : (c < n) ⊎ (n ≤ c) → c < n
     go (inl lt) = lt
-    go (inr ge) = let s = within_past c n ge in absurd (let y : ⊥ = omega arith in y)
+    go (inr ge) = let s = within_past c n ge in omega arith
 
 pub count-append : (c : ℕ) (xs ys : List ℕ) → count c (xs ++ ys) ≡ count c xs + count c ys
 count-append c [] ys = omega arith
@@ -50,7 +51,7 @@ nth_back links c (suc k) = nth_back links (step links c) k
 
 pub cells_add : (links : List ℕ) (c j k n : ℕ) → n ≡ j + k → cells links c n ≡ cells links c j ++ cells links (nth_cell links c j) k
 cells_add links c zero k n e = let w : n ≡ k = omega arith in ap (cells links c) w
-cells_add links c (suc j) k zero e = absurd (let y : ⊥ = omega arith in y)
+cells_add links c (suc j) k zero e = absurd (omega arith)
 cells_add links c (suc j) k (suc n) e = ap (λ (l : List ℕ). c ∷ l) (cells_add links (step links c) j k n (omega arith))
 
 pub length-cells : (links : List ℕ) (c k : ℕ) → length (cells links c k) ≡ k
@@ -58,7 +59,7 @@ length-cells links c zero = refl
 length-cells links c (suc k) = ap suc (length-cells links (step links c) k)
 
 pub count-nth : (links : List ℕ) (c q k : ℕ) → q < k → 1 ≤ count (nth_cell links c q) (cells links c k)
-count-nth links c q zero h = absurd (let y : ⊥ = omega arith in y)
+count-nth links c q zero h = omega arith
 count-nth links c zero (suc k) h = let s = hit_same c c refl in omega arith
 count-nth links c (suc q) (suc k) h = let r = count-nth links (step links c) q k (omega arith) in omega arith
 
@@ -98,45 +99,36 @@ cells_splice links a k f m n e lt h g =
     ∙ ap (λ (l : List ℕ). cells links a (k + 1) ++ l) (cells-apart links p f f m g)
 
 -- ---- heads
-module _ (c : ℕ) (links : List ℕ) where
-  pub counts-set : (hs : List Head) (i : ℕ) (x d : Head) → i < length hs
-      → counts c (set hs i x) links + count c (cells_of (get_or hs i d).name links (get_or hs i d)) ≡ counts c hs links + count c (cells_of x.name links x)
-  counts-set [] i x d h = absurd (let y : ⊥ = omega arith in y)
-  counts-set (h ∷ hs) zero x d lt = omega arith
-  counts-set (h ∷ hs) (suc i) x d lt = let r = counts-set hs i x d (omega arith) in omega arith
+pub counts-cons : (c : ℕ) (h : Head) (hs : List Head) (links : List ℕ) → counts c (h ∷ hs) links ≡ count c (cells_of links h.packet) + counts c hs links
+counts-cons c h hs links = sum_by-cons (λ (x : Head). count c (cells_of links x.packet)) h hs
 
-pub needs-set : (hs : List Head) (i : ℕ) (x d : Head) → i < length hs
-    → needs_of (set hs i x) + need_if (get_or hs i d).name (get_or hs i d).size ≡ needs_of hs + need_if x.name x.size
-needs-set [] i x d h = absurd (let y : ⊥ = omega arith in y)
-needs-set (h ∷ hs) zero x d lt = omega arith
-needs-set (h ∷ hs) (suc i) x d lt = let r = needs-set hs i x d (omega arith) in omega arith
-
-pub rows-set : (hs : List Head) (links memory : List ℕ) (i : ℕ) (x : Head)
-    → chain_rows (set hs i x) links memory ≡ set (chain_rows hs links memory) i (head_row x.name links memory x)
-rows-set [] links memory i x = refl
-rows-set (h ∷ hs) links memory zero x = refl
-rows-set (h ∷ hs) links memory (suc i) x = ap (λ (l : List Row). head_row h.name links memory h ∷ l) (rows-set hs links memory i x)
+pub needs-cons : (h : Head) (hs : List Head) → needs_of (h ∷ hs) ≡ need_if h.packet + needs_of hs
+needs-cons h hs = sum_by-cons (λ (x : Head). need_if x.packet) h hs
 
 -- a link changes, at a cell of no head
-of_apart : (o : Option Name) (h : Head) (links : List ℕ) (p v : ℕ) → count p (cells_of o links h) ≡ 0 → cells_of o (set links p v) h ≡ cells_of o links h
-of_apart None h links p v e = refl
-of_apart (Some n) h links p v e = cells-apart links p v h.first (chain_need h.size) e
+of_apart : (o : Option Stored) (links : List ℕ) (p v : ℕ) → count p (cells_of links o) ≡ 0 → cells_of (set links p v) o ≡ cells_of links o
+of_apart None links p v e = refl
+of_apart (Some s) links p v e = cells-apart links p v s.first (chain_need s.label.size) e
 
 pub counts-apart : (c : ℕ) (hs : List Head) (links : List ℕ) (p v : ℕ) → counts p hs links ≡ 0 → counts c hs (set links p v) ≡ counts c hs links
 counts-apart c [] links p v e = refl
 counts-apart c (h ∷ hs) links p v e =
-    let a : count c (cells_of h.name (set links p v) h) ≡ count c (cells_of h.name links h) = ap (count c) (of_apart h.name h links p v (omega arith)) in
+    let z = counts-cons p h hs links in
+    let a = counts-cons c h hs links in
+    let b = counts-cons c h hs (set links p v) in
+    let f = ap (count c) (of_apart h.packet links p v (omega arith)) in
     let r = counts-apart c hs links p v (omega arith) in omega arith
 
-row_apart : (o : Option Name) (h : Head) (links memory : List ℕ) (p v : ℕ) → count p (cells_of o links h) ≡ 0 → head_row o (set links p v) memory h ≡ head_row o links memory h
-row_apart None h links memory p v e = refl
-row_apart (Some n) h links memory p v e =
-    ap (λ (cs : List ℕ). row_of n (packet h.holder (take h.size (joined memory cs)))) (cells-apart links p v h.first (chain_need h.size) e)
+row_apart : (o : Option Stored) (links memory : List ℕ) (p v : ℕ) → count p (cells_of links o) ≡ 0 → head_row (set links p v) memory o ≡ head_row links memory o
+row_apart None links memory p v e = refl
+row_apart (Some s) links memory p v e =
+    ap (λ (cs : List ℕ). row_of s.label.name (packet s.label.holder (take s.label.size (joined memory cs)))) (cells-apart links p v s.first (chain_need s.label.size) e)
 
 pub rows_apart : (hs : List Head) (links memory : List ℕ) (p v : ℕ) → counts p hs links ≡ 0 → chain_rows hs (set links p v) memory ≡ chain_rows hs links memory
 rows_apart [] links memory p v e = refl
 rows_apart (h ∷ hs) links memory p v e =
-    let a = row_apart h.name h links memory p v (omega arith) in
+    let z = counts-cons p h hs links in
+    let a = row_apart h.packet links memory p v (omega arith) in
     let r = rows_apart hs links memory p v (omega arith) in
     λ i. a i ∷ r i
 
@@ -148,16 +140,16 @@ joined_same memory changed (c ∷ cs) same =
     let r = joined_same memory changed cs (λ d h. same d (omega arith)) in
     λ i. a i ++ r i
 
-row_same : (o : Option Name) (h : Head) (links memory changed : List ℕ) → ((c : ℕ) → 1 ≤ count c (cells_of o links h) → cell_bytes c changed ≡ cell_bytes c memory)
-    → head_row o links changed h ≡ head_row o links memory h
-row_same None h links memory changed same = refl
-row_same (Some n) h links memory changed same =
-    ap (λ (bs : List ℕ). row_of n (packet h.holder (take h.size bs))) (joined_same memory changed (cells links h.first (chain_need h.size)) same)
+row_same : (o : Option Stored) (links memory changed : List ℕ) → ((c : ℕ) → 1 ≤ count c (cells_of links o) → cell_bytes c changed ≡ cell_bytes c memory)
+    → head_row links changed o ≡ head_row links memory o
+row_same None links memory changed same = refl
+row_same (Some s) links memory changed same =
+    ap (λ (bs : List ℕ). row_of s.label.name (packet s.label.holder (take s.label.size bs))) (joined_same memory changed (cells links s.first (chain_need s.label.size)) same)
 
 pub rows_same : (hs : List Head) (links memory changed : List ℕ) → ((c : ℕ) → 1 ≤ counts c hs links → cell_bytes c changed ≡ cell_bytes c memory)
     → chain_rows hs links changed ≡ chain_rows hs links memory
 rows_same [] links memory changed same = refl
 rows_same (h ∷ hs) links memory changed same =
-    let a = row_same h.name h links memory changed (λ c k. same c (omega arith)) in
-    let r = rows_same hs links memory changed (λ c k. same c (omega arith)) in
+    let a = row_same h.packet links memory changed (λ c k. same c (let z = counts-cons c h hs links in omega arith)) in
+    let r = rows_same hs links memory changed (λ c k. same c (let z = counts-cons c h hs links in omega arith)) in
     λ i. a i ∷ r i

@@ -5,17 +5,12 @@ use lib.ListN.{length-replicate}
 use Rattle.std.proofs.lemmas.List.{places}
 use Rattle.std.proofs.lemmas.Slice.{overwrites}
 use Rattle.std.proofs.lemmas.Bool.{cases_eq}
-use Rattle.chain.specs.Cells.{nth_cell, cells, cell_bytes, hit, count}
+use Rattle.chain.specs.Cells.{nth_cell, cells, cell_bytes, hit, count, Wiped}
 use Rattle.store.proofs.Blocks.{block-put, others_put}
 use Rattle.chain.proofs.Linked.{hit_same, hit_other, count-append, cells_add, count-nth}
 
-pub record Wiped (links : List ℕ) (first k : ℕ) (memory changed : List ℕ) : Type 0 where
-  pub long : length changed ≡ length memory
-  pub zeros : (c : ℕ) → 1 ≤ count c (cells links first k) → cell_bytes c changed ≡ replicate 32 0
-  pub others : (c : ℕ) → count c (cells links first k) ≡ 0 → cell_bytes c changed ≡ cell_bytes c memory
-
 pub wiped_none : (links : List ℕ) (first : ℕ) (memory : List ℕ) → Wiped links first 0 memory memory
-wiped_none links first memory = record { long = refl; zeros = λ c h. absurd (let y : ⊥ = omega arith in y); others = λ c h. refl }
+wiped_none links first memory = record { long = refl; zeros = λ c h. absurd (omega arith); others = λ c h. refl }
 
 pub count_more : (links : List ℕ) (first k c : ℕ) → count c (cells links first (k + 1)) ≡ count c (cells links first k) + hit c (nth_cell links first k)
 count_more links first k c =
@@ -39,7 +34,7 @@ wiped_more links first k memory changed ys m w em fits z =
       long = (let e : length (put_mid (32 * d) m changed ys) ≡ length changed = search (rules, overwrites, places) in e ∙ l);
       zeros = λ c h. zero_at c (count_more links first k c) h (cases_eq c d) ly f le;
       others = λ c h. (let s = count_more links first k c in
-          let n : c ≢ d = (λ e. let t = hit_same c d e in (let y : ⊥ = omega arith in y)) in
+          let n : c ≢ d = (λ e. let t = hit_same c d e in omega arith) in
           others_put 32 d m changed ys le ly f c n ∙ w.others c (omega arith));
     }
   where

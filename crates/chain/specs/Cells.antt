@@ -1,5 +1,5 @@
 -- Cells of 32 bytes joined by numbers: cell c is followed by the cell that link c names.
-use Rattle.std.specs.Prelude.{ℕ, zero, suc, ◌+◌, cond, List, [], ◌∷◌, ◌++◌, ◌==◌, nat_lt, slice_index}
+use Rattle.std.specs.Prelude.{◌≡◌, ℕ, zero, suc, ◌+◌, ◌≤◌, cond, List, [], ◌∷◌, ◌++◌, ◌==◌, length, replicate, nat_lt, slice_index}
 use Rattle.store.specs.Blocks.{block}
 
 abbrev pub step : List ℕ → ℕ → ℕ
@@ -35,3 +35,9 @@ count c (d ∷ ds) = hit c d + count c ds
 -- 1 for a number below n, else 0
 abbrev pub within : ℕ → ℕ → ℕ
 within c n = cond (nat_lt c n) 1 0
+
+-- memory after zeros were laid in the first k cells from c on, and in no other
+pub record Wiped (links : List ℕ) (c k : ℕ) (memory changed : List ℕ) : Type 0 where
+  pub long : length changed ≡ length memory
+  pub zeros : (d : ℕ) → 1 ≤ count d (cells links c k) → cell_bytes d changed ≡ replicate 32 0
+  pub others : (d : ℕ) → count d (cells links c k) ≡ 0 → cell_bytes d changed ≡ cell_bytes d memory

@@ -1,15 +1,10 @@
 -- A chain's heads, links and memory, as rows, and what keeps its cells apart.
-use Rattle.std.specs.Prelude.{◌≡◌, ℕ, ◌+◌, ◌*◌, ◌/◌, ◌≤◌, max, List, [], ◌∷◌, length, take, Some, None, Option}
-use Rattle.store.specs.declared.name.Name.{Name}
+use Rattle.std.specs.Prelude.{◌≡◌, ℕ, ◌+◌, ◌*◌, ◌/◌, ◌%◌, ◌≤◌, max, List, [], length, map, take, sum_by, Some, None, Option}
 use Rattle.chain.specs.declared.head.Head.{Head}
-use Rattle.chain.specs.Cells.{cells, joined, count, within}
-use Rattle.store.specs.Meaning.{Meaning}
+use Rattle.chain.specs.declared.head.Stored.{Stored}
+use Rattle.chain.specs.Cells.{nth_cell, cells, joined, count, within}
 use Rattle.store.specs.Packets.{packet}
-use Rattle.store.specs.Rows.{Row, blank, row_of, meaning_of}
-
--- a head without a packet
-abbrev pub no_head : Head
-no_head = record { name = None; holder = 0; size = 0; first = 0 }
+use Rattle.store.specs.Rows.{Row, blank, row_of}
 
 -- cells for a size: a cell has 32 bytes, and each packet at least one cell
 abbrev pub chain_need : ℕ → ℕ
@@ -19,35 +14,33 @@ chain_need size = max 1 ((size + 31) / 32)
 abbrev pub chain_bytes : List ℕ → List ℕ → ℕ → ℕ → List ℕ
 chain_bytes links memory first size = take size (joined memory (cells links first (chain_need size)))
 
--- a head without a name has nothing, whatever else stands in it
-abbrev pub head_row : Option Name → List ℕ → List ℕ → Head → Row
-head_row None links memory h = blank
-head_row (Some n) links memory h = row_of n (packet h.holder (chain_bytes links memory h.first h.size))
+abbrev pub head_row : List ℕ → List ℕ → Option Stored → Row
+head_row links memory None = blank
+head_row links memory (Some s) = row_of s.label.name (packet s.label.holder (chain_bytes links memory s.first s.label.size))
 
 abbrev pub chain_rows : List Head → List ℕ → List ℕ → List Row
-chain_rows [] links memory = []
-chain_rows (h ∷ hs) links memory = head_row h.name links memory h ∷ chain_rows hs links memory
+chain_rows hs links memory = map (λ h. head_row links memory h.packet) hs
 
-abbrev pub chain_meaning : List Head → List ℕ → List ℕ → Meaning
-chain_meaning hs links memory = meaning_of (chain_rows hs links memory) 1024 (length hs) chain_need
+-- the place in memory of an offset of a head's packet
+abbrev pub spot_of : List ℕ → Option Stored → ℕ → ℕ
+spot_of links None offset = 0
+spot_of links (Some s) offset = 32 * nth_cell links s.first (offset / 32) + offset % 32
 
 -- the cells of one head, and how often c stands in the cells of all heads
-abbrev pub cells_of : Option Name → List ℕ → Head → List ℕ
-cells_of None links h = []
-cells_of (Some n) links h = cells links h.first (chain_need h.size)
+abbrev pub cells_of : List ℕ → Option Stored → List ℕ
+cells_of links None = []
+cells_of links (Some s) = cells links s.first (chain_need s.label.size)
 
 abbrev pub counts : ℕ → List Head → List ℕ → ℕ
-counts c [] links = 0
-counts c (h ∷ hs) links = count c (cells_of h.name links h) + counts c hs links
+counts c hs links = sum_by (λ h. count c (cells_of links h.packet)) hs
 
 -- the sum of the needs of all heads
-abbrev pub need_if : Option Name → ℕ → ℕ
-need_if None size = 0
-need_if (Some n) size = chain_need size
+abbrev pub need_if : Option Stored → ℕ
+need_if None = 0
+need_if (Some s) = chain_need s.label.size
 
 abbrev pub needs_of : List Head → ℕ
-needs_of [] = 0
-needs_of (h ∷ hs) = need_if h.name h.size + needs_of hs
+needs_of hs = sum_by (λ h. need_if h.packet) hs
 
 -- No cell stands twice among the spare cells and those of all heads, all lie inside, and all units are accounted for.
 pub record Linked (hs : List Head) (links memory : List ℕ) (free spare : ℕ) : Type 0 where

@@ -1,34 +1,36 @@
-ghost use Rattle.std.specs.Prelude.{◌≡◌, None};
+//! What a chain's table keeps.
 
-use store::{Name, Named};
+ghost use Rattle.std.specs.Prelude.{◌≡◌};
+ghost use Rattle.chain.specs.Heads.{name_of, no_head};
 
-// What a chain keeps of one packet: its name, or none; who holds it; how many bytes it has; and the number of its first cell.
-#[derive(Clone, Copy)]
-pub struct Head {
-    pub(crate) name: Option<Name>,
-    pub(crate) holder: u8,
-    pub(crate) size: usize,
+use store::{Label, Name, Named};
+
+// What is kept of a packet: its label, and the number of its first cell.
+#[derive(Debug, Clone, Copy, PartialEq, Eq)]
+pub(crate) struct Stored {
+    pub(crate) label: Label,
     pub(crate) first: usize,
 }
 
+/// A place of a chain's table, with what is kept of a packet, or without one.
+#[derive(Debug, Clone, Copy, PartialEq, Eq)]
+pub struct Head {
+    pub(crate) packet: Option<Stored>,
+}
+
 impl Head {
-    // The record of no packet.
+    /// The record of no packet.
     pub fn free() -> Head
-        ensures { result ≡ record { name = None; holder = 0; size = 0; first = 0 } }
+        ensures { result ≡ no_head }
     {
-        Head {
-            name: None,
-            holder: 0,
-            size: 0,
-            first: 0,
-        }
+        Head { packet: None }
     }
 }
 
 impl Named for Head {
-    ghost named = { λ s. s.name };
+    ghost named = { λ s. name_of s.packet };
 
     fn name(&self) -> Option<Name> {
-        self.name
+        self.packet.map(|stored| stored.label.name)
     }
 }

@@ -1,2 +1,1 @@
-mod Changes
-mod Stored
+pub mod Changes

@@ -1,40 +1,43 @@
 -- A slab's table and memory, as rows: slot i has the 256 bytes from 256 * i on.
-use Rattle.std.specs.Prelude.{◌≡◌, ℕ, ◌+◌, ◌*◌, ◌<◌, ◌≤◌, true, List, [], ◌∷◌, length, take, drop, Some, None, Option}
-use Rattle.slab_store.specs.declared.lent.Lent.{Lent}
+use Rattle.std.specs.Prelude.{◌≡◌, ℕ, zero, suc, ◌+◌, ◌*◌, List, [], ◌∷◌, length, take, drop, Some, None, Option}
 use Rattle.slab_store.specs.declared.slot.Slot.{Slot}
-use Rattle.store.specs.declared.name.Name.{Name}
-use Rattle.store.specs.Meaning.{Meaning, found, units}
+use Rattle.slab_store.specs.declared.slots.Slots.{Slots}
+use Rattle.store.specs.declared.label.Label.{Label}
+use Rattle.store.specs.Meaning.{Meaning}
 use Rattle.store.specs.Packets.{packet, empty}
-use Rattle.store.specs.Rows.{Row, Lies, gathered, distinct, place, meaning_of}
+use Rattle.store.specs.Rows.{Row, blank, row_of}
 
 -- a slot's packet is the front of its bytes
-abbrev pub row : Slot → List ℕ → Row
-row s bytes = record { named = s.name; packet = packet s.holder (take s.size bytes) }
+abbrev pub row : Option Label → List ℕ → Row
+row None bytes = blank
+row (Some l) bytes = row_of l.name (packet l.holder (take l.size bytes))
 
 abbrev pub slab_rows : List Slot → List ℕ → List Row
 slab_rows [] memory = []
-slab_rows (s ∷ ss) memory = row s (take 256 memory) ∷ slab_rows ss (drop 256 memory)
+slab_rows (s ∷ ss) memory = row s.label (take 256 memory) ∷ slab_rows ss (drop 256 memory)
 
-abbrev pub rows : Lent → List Row
+abbrev pub rows : Slots → List Row
 rows l = slab_rows l.slots.now l.memory.now
 
+-- the label in slot i, if it has one
+abbrev pub label_at : List Slot → ℕ → Option Label
+label_at [] i = None
+label_at (s ∷ ss) zero = s.label
+label_at (s ∷ ss) (suc i) = label_at ss i
+
 -- each slot has its bytes, and there are no others
-abbrev pub Whole : Lent → Type 0
+abbrev pub Whole : Slots → Type 0
 Whole l = length l.memory.now ≡ 256 * length l.slots.now
 
--- a table without packets, whatever the memory holds
-abbrev pub Cleared : List Slot → Type 0
-Cleared ss = (memory : List ℕ) → (gathered (slab_rows ss memory) ≡ empty) × (distinct (slab_rows ss memory) ≡ true)
+-- a slab of so many slots without packets
+abbrev pub empty_slab : ℕ → Meaning
+empty_slab slots = record { packets = empty; largest = 256; capacity = slots; need = λ _. 1 }
 
-abbrev pub slab_meaning : Lent → Meaning
-slab_meaning l = meaning_of (rows l) 256 (length l.slots.now) (λ _. 1)
+-- how many slots have a packet
+abbrev pub one_if : Option Label → ℕ
+one_if None = 0
+one_if (Some l) = 1
 
--- what a search for a name says: the slot that has its packet
-abbrev pub Held : Lent → Name → Option ℕ → Type 0
-Held l n None = found (slab_meaning l) n ≡ None
-Held l n (Some i) = (i < length l.slots.now) × Lies (rows l) n i
-
--- what a search for a free slot says: there is one exactly where there is room for one more unit
-abbrev pub Vacant : Lent → Option ℕ → Type 0
-Vacant l None = length l.slots.now < units (slab_meaning l) + 1
-Vacant l (Some i) = (i < length l.slots.now) × (Some i ≡ place None (rows l)) × (units (slab_meaning l) + 1 ≤ length l.slots.now)
+abbrev pub taken : List Slot → ℕ
+taken [] = 0
+taken (s ∷ ss) = one_if s.label + taken ss

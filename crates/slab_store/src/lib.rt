@@ -1,9 +1,8 @@
+//! A store of small packets, each in a slot of its own.
 #![tactic(auto)]
 
-mod calls;
-mod lent;
-mod slab;
 mod slot;
+mod slots;
 
-pub use slab::Slab;
 pub use slot::Slot;
+pub use slots::{Slab, Slots, slab_over};

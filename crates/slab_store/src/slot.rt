@@ -1,33 +1,30 @@
-ghost use Rattle.std.specs.Prelude.{◌≡◌, ◌≤◌, None};
+//! Records of slots.
+ghost use Rattle.std.specs.Prelude.{◌≡◌, ◌≤◌, None, Some};
+ghost use Rattle.store.specs.declared.label.Label.{Label};
+ghost use Rattle.slab_store.specs.Labels.{name_of};
 
-use store::{Name, Named};
+use store::{Label, Name, Named};
 
-// What a slab keeps of one slot: the name of the packet in it, or none; who holds it; and how many bytes it has.
+/// What a slab keeps of one slot: the label of the packet in it, or none.
 #[derive(Clone, Copy)]
 pub struct Slot {
-    pub(crate) name: Option<Name>,
-    pub(crate) holder: u8,
-    pub(crate) size: usize,
-    ghost small: { size ≤ 256 },
+    pub(crate) label: Option<Label>,
+    ghost small: { (l : Label) → label ≡ Some l → l.size ≤ 256 },
 }
 
 impl Slot {
-    // The record of a slot without a packet.
+    /// The record of a slot without a packet.
     pub fn free() -> Slot
-        ensures { (result.name ≡ None) × ((result.holder ≡ 0) × (result.size ≡ 0)) }
+        ensures { result.label ≡ None }
     {
-        Slot {
-            name: None,
-            holder: 0,
-            size: 0,
-        }
+        Slot { label: None }
     }
 }
 
 impl Named for Slot {
-    ghost named = { λ s. s.name };
+    ghost named = { λ s. name_of s.label };
 
     fn name(&self) -> Option<Name> {
-        self.name
+        self.label.map(|label| label.name)
     }
 }

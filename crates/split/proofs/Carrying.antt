@@ -1,10 +1,11 @@
 -- Bytes copied one by one from a packet of one store to a packet of another.
-use Rattle.std.proofs.Common.{◌≡◌, ℕ, zero, suc, ◌+◌, ◌<◌, List, [], ◌∷◌, ◌++◌, length, get_or, take, drop, set, replicate, Some, Ok, sym, refl, ap, ◌∙◌, append-nil, arith, length-append, length-drop, length-take}
+use Rattle.std.proofs.Common.{◌≡◌, ℕ, zero, suc, ◌+◌, ◌<◌, List, [], ◌∷◌, ◌++◌, length, get_or, take, drop, set, replicate, Some, Ok, Result, sym, refl, ap, ◌∙◌, append-nil, arith, length-append, length-drop, length-take}
 use lib.ListN.{length-replicate}
 use Rattle.std.proofs.lemmas.List.{drop_all, take_all}
 use Rattle.std.proofs.lemmas.Bool.{lt-ltb}
 use Rattle.std.specs.Result.{result_unwrap_or}
 use Rattle.store.specs.declared.name.Name.{Name}
+use Rattle.store.specs.declared.denial.Question.{Question}
 use Rattle.store.specs.Meaning.{Meaning, with_packets, found, write_after, read_answer, make_after}
 use Rattle.store.specs.Packets.{Packet, insert, new_packet, with_byte, with_bytes, with_holder}
 use Rattle.store.proofs.Answered.{write_inside, make_granted, hand_alive}
@@ -12,11 +13,11 @@ use Rattle.store.proofs.Maps.{insert-known, insert-twice, lookup-insert-same}
 use Rattle.split.specs.Carry.{mixed, Carried, Copied}
 
 mix_more : (i : ℕ) (ps qs : List ℕ) → i < length ps → i < length qs → set (take i ps ++ drop i qs) i (get_or ps i 0) ≡ take (suc i) ps ++ drop (suc i) qs
-mix_more zero [] qs h k = absurd (let y : ⊥ = omega arith in y)
-mix_more zero (p ∷ ps) [] h k = absurd (let y : ⊥ = omega arith in y)
+mix_more zero [] qs h k = absurd (omega arith)
+mix_more zero (p ∷ ps) [] h k = absurd (omega arith)
 mix_more zero (p ∷ ps) (q ∷ qs) h k = refl
-mix_more (suc i) [] qs h k = absurd (let y : ⊥ = omega arith in y)
-mix_more (suc i) (p ∷ ps) [] h k = absurd (let y : ⊥ = omega arith in y)
+mix_more (suc i) [] qs h k = absurd (omega arith)
+mix_more (suc i) (p ∷ ps) [] h k = absurd (omega arith)
 mix_more (suc i) (p ∷ ps) (q ∷ qs) h k = ap (λ (r : List ℕ). p ∷ r) (mix_more i ps qs (omega arith) (omega arith))
 
 pub carried_none : (from old : Meaning) (n : Name) (size : ℕ) → Carried from old old n size 0
@@ -39,8 +40,12 @@ carried_more from old mid new n size i b c lt byte after p q e f l k =
     ∙ ap (λ (w : Meaning). with_packets w (insert n (with_byte i b x) w.packets)) m
     ∙ ap (with_packets old) (insert-twice n (with_byte i b x) x old.packets ∙ ap (λ (v : Packet). insert n v old.packets) y)
 
-pub byte_read : (m : Meaning) (n : Name) (i : ℕ) (p : Packet) → found m n ≡ Some p → i < length p.bytes → result_unwrap_or (read_answer m n i) 0 ≡ get_or p.bytes i 0
-byte_read m n i p e h = let t = lt-ltb i (length p.bytes) h in simp (e, t)
+pub byte_read : (m : Meaning) (n : Name) (i : ℕ) (r : Result ℕ Question) (b : ℕ) → b ≡ result_unwrap_or r 0 → r ≡ read_answer m n i
+    → (p : Packet) → found m n ≡ Some p → i < length p.bytes → b ≡ get_or p.bytes i 0
+byte_read m n i r b e f p g h =
+    let t = lt-ltb i (length p.bytes) h in
+    let v : result_unwrap_or (read_answer m n i) 0 ≡ get_or p.bytes i 0 = simp (g, t) in
+    e ∙ ap (λ r. result_unwrap_or r 0) f ∙ v
 
 whole : (size : ℕ) (ps qs : List ℕ) → length ps ≡ size → length qs ≡ size → take size ps ++ drop size qs ≡ ps
 whole size ps qs l k = ap (λ (r : List ℕ). take size ps ++ r) (drop_all size qs (omega arith)) ∙ append-nil (take size ps) ∙ take_all size ps (omega arith)

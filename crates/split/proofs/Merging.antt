@@ -57,53 +57,61 @@ used-member w n p m e = let d = used-drop w n p m e in omega arith
 
 -- ---- maps by their look-ups
 -- a map with another packet of one name, or with none
-abbrev pub Differs : Name → Option Packet → Packets → Packets → Type 0
-Differs n o new old = (q : Name) → lookup q new ≡ cond (same q n) o (lookup q old)
+pub record Differs (n : Name) (o : Option Packet) (new old : Packets) : Type 0 where
+  pub at : (q : Name) → lookup q new ≡ cond (same q n) o (lookup q old)
 
 pub inserted : (n : Name) (p : Packet) (m : Packets) → Differs n (Some p) (insert n p m) m
-inserted n p m q = lookup-insert q n p m
+inserted n p m = record { at = λ q. lookup-insert q n p m }
 
 pub removed : (n : Name) (m : Packets) → Differs n None (remove n m) m
-removed n m q = lookup-remove q n m
+removed n m = record { at = λ q. lookup-remove q n m }
 
 pub lacking : (n : Name) (m : Packets) → lookup n m ≡ None → Differs n None m m
-lacking n m e q = go (same_or q n)
+lacking n m e = record { at = λ q. go q (same_or q n) }
   where
-    go : (q ≡ n) ⊎ (same q n ≡ false) → lookup q m ≡ cond (same q n) None (lookup q m)
-    go (inl w) = let t = same_true q n w in rw t (ap (λ (i : Name). lookup i m) w ∙ e)
-    go (inr f) = rw f
+    go : (q : Name) → (q ≡ n) ⊎ (same q n ≡ false) → lookup q m ≡ cond (same q n) None (lookup q m)
+    go q (inl w) = let t = same_true q n w in rw t (ap (λ (i : Name). lookup i m) w ∙ e)
+    go q (inr f) = rw f
 
-pub none_some : {p : Packet} → ◌≡◌ {A = Option Packet} None (Some p) → ⊥
-none_some {p} w = let z : ◌≡◌ {A = ℕ} 0 1 = cc in omega arith
+-- a packet lies in the one of the two maps that its holder says
+pub data Lay (k : ℕ) (p : Packet) : Option Packet → Option Packet → Type 0 where
+  near : p.holder ≤ k → Lay k p (Some p) None
+  far : k < p.holder → Lay k p None (Some p)
 
--- A packet may lie in a store of that side if its holder says so and it would fit both stores.
-abbrev pub Nears : Meaning → Meaning → ℕ → Packet → Type 0
-Nears a b k p = (p.holder ≤ k) × (length p.bytes ≤ min a.largest b.largest)
+only : {p q : Packet} → ◌≡◌ {A = Option Packet} (Some p) (Some q) → p ≡ q
+only {p} {q} e = cc
 
-abbrev pub Fars : Meaning → Meaning → ℕ → Packet → Type 0
-Fars a b k p = (k < p.holder) × (length p.bytes ≤ min a.largest b.largest)
+module _ {k : ℕ} {p : Packet} where
+  lay_either : {x y : Option Packet} → Lay k p x y → either x y ≡ Some p
+  lay_either (near h) = refl
+  lay_either (far h) = refl
+
+  lay-apart : {x y : Option Packet} → Lay k p x y → (q : Packet) → x ≡ Some q → y ≡ None
+  lay-apart (near h) q e = refl
+  lay-apart (far h) q e = cc
+
+  lay-near : {x y : Option Packet} → Lay k p x y → (m : ℕ) → length p.bytes ≤ m → (q : Packet) → x ≡ Some q → (q.holder ≤ k) × (length q.bytes ≤ m)
+  lay-near (near h) m l q e = subst (λ (r : Packet). (r.holder ≤ k) × (length r.bytes ≤ m)) (only e) (h, l)
+  lay-near (far h) m l q e = cc
+
+  lay-far : {x y : Option Packet} → Lay k p x y → (m : ℕ) → length p.bytes ≤ m → (q : Packet) → y ≡ Some q → (k < q.holder) × (length q.bytes ≤ m)
+  lay-far (near h) m l q e = cc
+  lay-far (far h) m l q e = subst (λ (r : Packet). (k < r.holder) × (length r.bytes ≤ m)) (only e) (h, l)
 
 -- ---- the packet of one name changes in both maps, and nothing else
-module _ (a b : Meaning) (k u : ℕ) (fit : Fit a b k u) (n : Name) (near far : Option Packet) (x y : Packets)
-    (l : Differs n near x a.packets) (r : Differs n far y b.packets)
-    (one : (p : Packet) → near ≡ Some p → far ≡ None)
-    (at-near : (p : Packet) → near ≡ Some p → Nears a b k p)
-    (at-far : (p : Packet) → far ≡ Some p → Fars a b k p) where
+module _ {a b : Meaning} {k u : ℕ} (fit : Fit a b k u) {n : Name} {x y : Packets} {near far : Option Packet} (l : Differs n near x a.packets) (r : Differs n far y b.packets) where
   joined : Differs n (either near far) (merged x y) (merged a.packets b.packets)
-  joined q = lookup-merged q x y ∙ simp (l q, r q) (go (same q n))
+  joined = record { at = λ q. lookup-merged q x y ∙ simp (l.at q, r.at q) (go q (same q n)) }
     where
-      go : (t : Bool) → either (cond t near (lookup q a.packets)) (cond t far (lookup q b.packets)) ≡ cond t (either near far) (lookup q (merged a.packets b.packets))
-      go true = refl
-      go false = sym (lookup-merged q a.packets b.packets)
+      go : (q : Name) (t : Bool) → either (cond t near (lookup q a.packets)) (cond t far (lookup q b.packets)) ≡ cond t (either near far) (lookup q (merged a.packets b.packets))
+      go q true = refl
+      go q false = sym (lookup-merged q a.packets b.packets)
 
-  pub joined-put : (p : Packet) → either near far ≡ Some p → merged x y ≡ insert n p (merged a.packets b.packets)
-  joined-put p e = packets_from_lookups _ _ λ q. joined q ∙ ap (λ (o : Option Packet). cond (same q n) o (lookup q (merged a.packets b.packets))) e ∙ sym (lookup-insert q n p (merged a.packets b.packets))
-
-  pub joined_cut : either near far ≡ None → merged x y ≡ remove n (merged a.packets b.packets)
-  joined_cut e = packets_from_lookups _ _ λ q. joined q ∙ ap (λ (o : Option Packet). cond (same q n) o (lookup q (merged a.packets b.packets))) e ∙ sym (lookup-remove q n (merged a.packets b.packets))
-
-  pub fit-after : (v : ℕ) → v ≡ used (larger a b) (merged x y) → v ≤ min a.capacity b.capacity → Fit (with_packets a x) (with_packets b y) k v
-  fit-after v sum within = record {
+  fits : ((p : Packet) → near ≡ Some p → far ≡ None)
+      → ((p : Packet) → near ≡ Some p → (p.holder ≤ k) × (length p.bytes ≤ min a.largest b.largest))
+      → ((p : Packet) → far ≡ Some p → (k < p.holder) × (length p.bytes ≤ min a.largest b.largest))
+      → (v : ℕ) → v ≡ used (larger a b) (merged x y) → v ≤ min a.capacity b.capacity → Fit (with_packets a x) (with_packets b y) k v
+  fits one in_near in-far v sum within = record {
     apart = λ q s e. apart q s e (same_or q n);
     near = λ q s e. nears q s e (same_or q n);
     far = λ q s e. fars q s e (same_or q n);
@@ -112,39 +120,29 @@ module _ (a b : Meaning) (k u : ℕ) (fit : Fit a b k u) (n : Name) (near far : 
   }
     where
       apart : (q : Name) (s : Packet) → lookup q x ≡ Some s → (q ≡ n) ⊎ (same q n ≡ false) → lookup q y ≡ None
-      apart q s e (inl w) = let t = same_true q n w in r q ∙ rw t (one s (rw t at (sym (l q) ∙ e)))
-      apart q s e (inr f) = r q ∙ rw f (fit.apart q s (rw f at (sym (l q) ∙ e)))
+      apart q s e (inl w) = let t = same_true q n w in r.at q ∙ rw t (one s (rw t at (sym (l.at q) ∙ e)))
+      apart q s e (inr f) = r.at q ∙ rw f (fit.apart q s (rw f at (sym (l.at q) ∙ e)))
 
-      nears : (q : Name) (s : Packet) → lookup q x ≡ Some s → (q ≡ n) ⊎ (same q n ≡ false) → Nears a b k s
-      nears q s e (inl w) = let t = same_true q n w in at-near s (rw t at (sym (l q) ∙ e))
-      nears q s e (inr f) = fit.near q s (rw f at (sym (l q) ∙ e))
+      nears : (q : Name) (s : Packet) → lookup q x ≡ Some s → (q ≡ n) ⊎ (same q n ≡ false) → (s.holder ≤ k) × (length s.bytes ≤ min a.largest b.largest)
+      nears q s e (inl w) = let t = same_true q n w in in_near s (rw t at (sym (l.at q) ∙ e))
+      nears q s e (inr f) = fit.near q s (rw f at (sym (l.at q) ∙ e))
 
-      fars : (q : Name) (s : Packet) → lookup q y ≡ Some s → (q ≡ n) ⊎ (same q n ≡ false) → Fars a b k s
-      fars q s e (inl w) = let t = same_true q n w in at-far s (rw t at (sym (r q) ∙ e))
-      fars q s e (inr f) = fit.far q s (rw f at (sym (r q) ∙ e))
+      fars : (q : Name) (s : Packet) → lookup q y ≡ Some s → (q ≡ n) ⊎ (same q n ≡ false) → (k < s.holder) × (length s.bytes ≤ min a.largest b.largest)
+      fars q s e (inl w) = let t = same_true q n w in in-far s (rw t at (sym (r.at q) ∙ e))
+      fars q s e (inr f) = fit.far q s (rw f at (sym (r.at q) ∙ e))
 
--- ---- the same where the packet then lies near, far, or nowhere
-only : {p q : Packet} → ◌≡◌ {A = Option Packet} (Some p) (Some q) → p ≡ q
-only {p} {q} e = cc
+  -- it lies in one of them
+  module _ {p : Packet} (lay : Lay k p near far) where
+    pub put : merged x y ≡ insert n p (merged a.packets b.packets)
+    put = packets_from_lookups _ _ λ q. joined.at q ∙ ap (λ (o : Option Packet). cond (same q n) o (lookup q (merged a.packets b.packets))) (lay_either lay) ∙ sym (lookup-insert q n p (merged a.packets b.packets))
 
-module _ (a b : Meaning) (k u : ℕ) (fit : Fit a b k u) (n : Name) (x y : Packets) where
-  module _ (p : Packet) (l : Differs n (Some p) x a.packets) (r : Differs n None y b.packets) (ok : Nears a b k p) where
-    pub put-near : merged x y ≡ insert n p (merged a.packets b.packets)
-    put-near = joined-put a b k u fit n (Some p) None x y l r (λ s e. refl) (λ s e. subst (Nears a b k) (only e) ok) (λ s e. absurd (none_some e)) p refl
+    pub fits-put : length p.bytes ≤ min a.largest b.largest → (v : ℕ) → v ≡ used (larger a b) (merged x y) → v ≤ min a.capacity b.capacity → Fit (with_packets a x) (with_packets b y) k v
+    fits-put small = fits (lay-apart lay) (lay-near lay _ small) (lay-far lay _ small)
 
-    pub fit-near : (v : ℕ) → v ≡ used (larger a b) (merged x y) → v ≤ min a.capacity b.capacity → Fit (with_packets a x) (with_packets b y) k v
-    fit-near = fit-after a b k u fit n (Some p) None x y l r (λ s e. refl) (λ s e. subst (Nears a b k) (only e) ok) (λ s e. absurd (none_some e))
+-- it lies in neither
+module _ {a b : Meaning} {k u : ℕ} (fit : Fit a b k u) {n : Name} {x y : Packets} (l : Differs n None x a.packets) (r : Differs n None y b.packets) where
+  pub cut : merged x y ≡ remove n (merged a.packets b.packets)
+  cut = packets_from_lookups _ _ λ q. (joined fit l r).at q ∙ sym (lookup-remove q n (merged a.packets b.packets))
 
-  module _ (p : Packet) (l : Differs n None x a.packets) (r : Differs n (Some p) y b.packets) (ok : Fars a b k p) where
-    pub put-far : merged x y ≡ insert n p (merged a.packets b.packets)
-    put-far = joined-put a b k u fit n None (Some p) x y l r (λ s e. absurd (none_some e)) (λ s e. absurd (none_some e)) (λ s e. subst (Fars a b k) (only e) ok) p refl
-
-    pub fit-far : (v : ℕ) → v ≡ used (larger a b) (merged x y) → v ≤ min a.capacity b.capacity → Fit (with_packets a x) (with_packets b y) k v
-    fit-far = fit-after a b k u fit n None (Some p) x y l r (λ s e. absurd (none_some e)) (λ s e. absurd (none_some e)) (λ s e. subst (Fars a b k) (only e) ok)
-
-  module _ (l : Differs n None x a.packets) (r : Differs n None y b.packets) where
-    pub cut_both : merged x y ≡ remove n (merged a.packets b.packets)
-    cut_both = joined_cut a b k u fit n None None x y l r (λ s e. absurd (none_some e)) (λ s e. absurd (none_some e)) (λ s e. absurd (none_some e)) refl
-
-    pub fit_cut : (v : ℕ) → v ≡ used (larger a b) (merged x y) → v ≤ min a.capacity b.capacity → Fit (with_packets a x) (with_packets b y) k v
-    fit_cut = fit-after a b k u fit n None None x y l r (λ s e. absurd (none_some e)) (λ s e. absurd (none_some e)) (λ s e. absurd (none_some e))
+  pub fits-cut : (v : ℕ) → v ≡ used (larger a b) (merged x y) → v ≤ min a.capacity b.capacity → Fit (with_packets a x) (with_packets b y) k v
+  fits-cut = fits fit l r (λ s e. cc) (λ s e. cc) (λ s e. cc)

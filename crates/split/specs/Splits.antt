@@ -44,10 +44,8 @@ pub record Fit (a b : Meaning) (bound units : ℕ) : Type 0 where
   pub sum : units ≡ used (larger a b) (merged a.packets b.packets)
   pub within : units ≤ min a.capacity b.capacity
 
--- where a split stands, given that its stores do
-pub record Stands (nears fars : Type 0) (a b : Meaning) (clean : Bool) (bound count : ℕ) : Type 0 where
-  pub near : nears
-  pub far : fars
+-- where a split stands
+pub record Stands (a b : Meaning) (clean : Bool) (bound count : ℕ) : Type 0 where
   pub least : (size : ℕ) → 1 ≤ larger a b size
   pub sum : count ≡ units (split_meaning a b clean)
   pub within : units (split_meaning a b clean) ≤ (split_meaning a b clean).capacity

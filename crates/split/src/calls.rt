@@ -1,66 +1,105 @@
-ghost use Rattle.std.specs.Prelude.{◌≡◌};
-ghost use Rattle.split.specs.Splits.{split_meaning, Stands};
+//! A split as a store.
 
+ghost use Rattle.std.specs.Prelude.{◌≡◌};
+ghost use Rattle.split.specs.Splits.{split_meaning};
+ghost use Rattle.store.specs.Meaning.{make_answer, make_after, discard_answer, discard_after, write_answer, write_after, hand_answer, hand_after};
+
+use crate::carry::transfer;
 use crate::split::{Place, Split};
 use store::{Handed, Name, Question, Store};
 
-// The number of this kind. A generic impl knows nothing of its own associated constant, so that one is this one.
-const SPLIT: u8 = 3;
-
 impl<N: Store, F: Store> Store for Split<N, F> {
-    const KIND: u8 = SPLIT;
+    const KIND: u8 = 3;
 
-    ghost kind = { 3 };
+    ghost KIND = { 3 };
 
-    ghost made = { λ s. Stands (N.Store.made s.near) (F.Store.made s.far) (N.Store.meaning s.near) (F.Store.meaning s.far) s.clean s.bound s.used };
+    ghost meaning = { λ s. split_meaning (N.meaning s.near) (F.meaning s.far) s.clean };
 
-    ghost meaning = { λ s. split_meaning (N.Store.meaning s.near) (F.Store.meaning s.far) s.clean };
-
-    fn kind_number() -> u8
-        ensures { result ≡ 3 }
+    fn make(&mut self, name: Name, size: usize) -> Result<(), Question>
+        ensures answer { result ≡ make_answer (⟦<Split<N, F> as Store>⟧.meaning self.old) name size }
+        ensures after { ⟦<Split<N, F> as Store>⟧.meaning self.new ≡ make_after (⟦<Split<N, F> as Store>⟧.meaning self.old) name size }
+        ensures bound { self.new.bound ≡ self.old.bound }
     {
-        SPLIT
-    }
-
-    fn make(&mut self, name: Name, size: usize) -> Result<(), Question> {
-        if self.holds(name) {
+        if self.place(name).is_ok() {
             return Err(Question::Unused);
         }
-        if size > self.most() {
+        if size > self.largest() {
             return Err(Question::Fits);
         }
-        let need = self.units(size);
-        if need > self.room().saturating_sub(self.used) {
+        let need = self.need(size);
+        if need > self.capacity() - self.used {
             return Err(Question::Room);
         }
-        self.enter(name, size, need)
+        self.used += need;
+        if name.maker <= self.bound {
+            self.near.make(name, size)
+        } else {
+            self.far.make(name, size)
+        }
     }
 
-    fn discard(&mut self, name: Name) -> Result<(), Question> {
-        let place = self.place(name);
-        self.discard_at(place, name)
+    fn discard(&mut self, name: Name) -> Result<(), Question>
+        ensures answer { result ≡ discard_answer (⟦<Split<N, F> as Store>⟧.meaning self.old) name }
+        ensures after { ⟦<Split<N, F> as Store>⟧.meaning self.new ≡ discard_after (⟦<Split<N, F> as Store>⟧.meaning self.old) name }
+        ensures bound { self.new.bound ≡ self.old.bound }
+    {
+        match self.place(name)? {
+            Place::Near(size) => {
+                self.used -= self.need(size);
+                self.near.discard(name)
+            }
+            Place::Far(size) => {
+                self.used -= self.need(size);
+                self.far.discard(name)
+            }
+        }
     }
 
-    fn write(&mut self, name: Name, offset: usize, byte: u8) -> Result<(), Question> {
-        let place = self.place(name);
-        self.write_at(place, name, offset, byte)
+    fn write(&mut self, name: Name, offset: usize, byte: u8) -> Result<(), Question>
+        ensures answer { result ≡ write_answer (⟦<Split<N, F> as Store>⟧.meaning self.old) name offset }
+        ensures after { ⟦<Split<N, F> as Store>⟧.meaning self.new ≡ write_after (⟦<Split<N, F> as Store>⟧.meaning self.old) name offset byte }
+        ensures bound { self.new.bound ≡ self.old.bound }
+    {
+        match self.place(name)? {
+            Place::Near(_) => self.near.write(name, offset, byte),
+            Place::Far(_) => self.far.write(name, offset, byte),
+        }
     }
 
-    fn hand(&mut self, name: Name, holder: u8) -> Result<Handed, Question> {
-        let place = self.place(name);
-        self.hand_at(place, name, holder)
+    // The packet moves where the new holder's packets lie.
+    fn hand(&mut self, name: Name, holder: u8) -> Result<Handed, Question>
+        ensures answer { result ≡ hand_answer (⟦<Split<N, F> as Store>⟧.meaning self.old) name }
+        ensures after { ⟦<Split<N, F> as Store>⟧.meaning self.new ≡ hand_after (⟦<Split<N, F> as Store>⟧.meaning self.old) name holder }
+        ensures bound { self.new.bound ≡ self.old.bound }
+    {
+        match (self.place(name)?, holder <= self.bound) {
+            (Place::Near(_), true) => self.near.hand(name, holder),
+            (Place::Near(size), false) => {
+                transfer(&mut self.near, &mut self.far, name, size, holder)
+            }
+            (Place::Far(size), true) => {
+                transfer(&mut self.far, &mut self.near, name, size, holder)
+            }
+            (Place::Far(_), false) => self.far.hand(name, holder),
+        }
     }
 
     fn largest(&self) -> usize {
-        self.most()
+        self.near.largest().min(self.far.largest())
     }
 
+    // A split that was made over a store in use takes nothing.
     fn capacity(&self) -> usize {
-        self.room()
+        if self.clean {
+            self.near.capacity().min(self.far.capacity())
+        } else {
+            0
+        }
     }
 
+    // The larger need of the two stores, so that a packet can lie in either.
     fn need(&self, size: usize) -> usize {
-        self.units(size)
+        self.near.need(size).max(self.far.need(size))
     }
 
     fn used(&self) -> usize {
@@ -68,26 +107,23 @@ impl<N: Store, F: Store> Store for Split<N, F> {
     }
 
     fn size(&self, name: Name) -> Result<usize, Question> {
-        match self.place(name) {
+        match self.place(name)? {
             Place::Near(size) => Ok(size),
             Place::Far(size) => Ok(size),
-            Place::Nowhere => Err(Question::Alive),
         }
     }
 
     fn holder(&self, name: Name) -> Result<u8, Question> {
-        match self.place(name) {
+        match self.place(name)? {
             Place::Near(_) => self.near.holder(name),
             Place::Far(_) => self.far.holder(name),
-            Place::Nowhere => Err(Question::Alive),
         }
     }
 
     fn read(&self, name: Name, offset: usize) -> Result<u8, Question> {
-        match self.place(name) {
+        match self.place(name)? {
             Place::Near(_) => self.near.read(name, offset),
             Place::Far(_) => self.far.read(name, offset),
-            Place::Nowhere => Err(Question::Alive),
         }
     }
 }

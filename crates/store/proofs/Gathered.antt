@@ -1,5 +1,6 @@
 -- What a table means, as rows of it change.
-use Rattle.std.proofs.Common.{◌≡◌, ℕ, zero, suc, ◌+◌, ◌<◌, ◌≤◌, Bool, true, false, cond, not, ◌&&◌, List, [], ◌∷◌, length, get_or, set, Some, None, Option, sym, refl, ap, ◌∙◌, subst, true≢false, arith}
+use Rattle.std.proofs.Common.{◌≡◌, ℕ, zero, suc, ◌+◌, ◌<◌, ◌≤◌, Bool, true, false, cond, not, ◌&&◌, List, [], ◌∷◌, length, get_or, set, Some, None, Option, sym, refl, ap, ◌∙◌, subst, arith}
+use Rattle.std.proofs.lemmas.Bool.{and_parts, not-true}
 use Rattle.store.specs.declared.name.Name.{Name}
 use Rattle.store.specs.Names.{same, same_equal}
 use Rattle.store.specs.Packets.{Packet, lookup, insert, remove, used}
@@ -19,48 +20,45 @@ Free (r ∷ rs) zero = r.named ≡ None
 Free (r ∷ rs) (suc i) = Free rs i
 
 alike-some : (o : Option Name) (n : Name) → alike o (Some n) ≡ true → o ≡ Some n
-alike-some None n h = absurd (true≢false (sym h))
+alike-some None n h = cc
 alike-some (Some m) n h = ap Some (same_equal m n h)
 
 alike_none : (o : Option Name) → alike o None ≡ true → o ≡ None
 alike_none None h = refl
-alike_none (Some m) h = absurd (true≢false (sym h))
-
-none_some : {A : Type 0} {x : A} → ◌≡◌ {A = Option A} None (Some x) → ⊥
-none_some {A} {x} w = let z : ◌≡◌ {A = ℕ} 0 1 = cc in omega arith
+alike_none (Some m) h = cc
 
 -- what a place found says
 some_next : (o : Option ℕ) (i : ℕ) → next o ≡ Some (suc i) → o ≡ Some i
-some_next None i h = absurd (none_some h)
+some_next None i h = cc
 some_next (Some k) i h = cc
 
 next_zero : (o : Option ℕ) → next o ≡ Some 0 → ⊥
-next_zero None h = none_some h
+next_zero None h = cc
 next_zero (Some k) h = let z : suc k ≡ 0 = cc in omega arith
 
 pub none_next : (o : Option ℕ) → next o ≡ None → o ≡ None
 none_next None h = refl
-none_next (Some k) h = absurd (none_some (sym h))
+none_next (Some k) h = cc
 
 pub holds_from : (n : Name) (rs : List Row) (i : ℕ) → position (λ r. r.named) (Some n) rs ≡ Some i → Holds n rs i
-holds_from n [] i h = none_some h
+holds_from n [] i h = cc
 holds_from n (r ∷ rs) i h = go (alike r.named (Some n)) refl i h (λ k e. holds_from n rs k e)
   where
     go : (t : Bool) → alike r.named (Some n) ≡ t → (i : ℕ) → cond t (Some 0) (next (position (λ r. r.named) (Some n) rs)) ≡ Some i
         → ((k : ℕ) → position (λ r. r.named) (Some n) rs ≡ Some k → Holds n rs k) → Holds n (r ∷ rs) i
     go true e zero h rest = alike-some r.named n e
-    go true e (suc i) h rest = let z : 0 ≡ suc i = cc in absurd (let y : ⊥ = omega arith in y)
+    go true e (suc i) h rest = let z : 0 ≡ suc i = cc in absurd (omega arith)
     go false e zero h rest = absurd (next_zero _ h)
     go false e (suc i) h rest = (e, rest i (some_next _ i h))
 
 pub free_from : (rs : List Row) (i : ℕ) → position (λ r. r.named) None rs ≡ Some i → Free rs i
-free_from [] i h = none_some h
+free_from [] i h = cc
 free_from (r ∷ rs) i h = go (alike r.named None) refl i h (λ k e. free_from rs k e)
   where
     go : (t : Bool) → alike r.named None ≡ t → (i : ℕ) → cond t (Some 0) (next (position (λ r. r.named) None rs)) ≡ Some i
         → ((k : ℕ) → position (λ r. r.named) None rs ≡ Some k → Free rs k) → Free (r ∷ rs) i
     go true e zero h rest = alike_none r.named e
-    go true e (suc i) h rest = let z : 0 ≡ suc i = cc in absurd (let y : ⊥ = omega arith in y)
+    go true e (suc i) h rest = let z : 0 ≡ suc i = cc in absurd (omega arith)
     go false e zero h rest = absurd (next_zero _ h)
     go false e (suc i) h rest = rest i (some_next _ i h)
 
@@ -70,24 +68,16 @@ lacks_from n (r ∷ rs) h = go (alike r.named (Some n)) h (λ e. lacks_from n rs
   where
     go : (t : Bool) → cond t (Some 0) (next (position (λ r. r.named) (Some n) rs)) ≡ None
         → (position (λ r. r.named) (Some n) rs ≡ None → lacks n rs ≡ true) → (not t && lacks n rs) ≡ true
-    go true h rest = absurd (none_some (sym h))
+    go true h rest = cc
     go false h rest = rest (none_next _ h)
 
 -- ---- look-ups
-and_parts : (x y : Bool) → (x && y) ≡ true → (x ≡ true) × (y ≡ true)
-and_parts true y h = (refl, h)
-and_parts false y h = absurd (true≢false (sym h))
-
-not_parts : (x : Bool) → not x ≡ true → x ≡ false
-not_parts true h = sym h
-not_parts false h = refl
-
 alike-apart : (m n : Name) → same m n ≡ false → n ≡ m → ⊥
 alike-apart m n h w = same_not m n h (sym w)
 
 pub lookup_lacking : (n : Name) (rs : List Row) → lacks n rs ≡ true → lookup n (gathered rs) ≡ None
 lookup_lacking n [] h = lookup-empty n
-lookup_lacking n (r ∷ rs) h = let p = and_parts _ _ h in go r.named (not_parts _ p.0) (lookup_lacking n rs p.1)
+lookup_lacking n (r ∷ rs) h = let p = and_parts _ _ h in go r.named (not-true _ p.0) (lookup_lacking n rs p.1)
   where
     go : (o : Option Name) → alike o (Some n) ≡ false → lookup n (gathered rs) ≡ None → lookup n (placed o r.packet (gathered rs)) ≡ None
     go None e rest = rest
@@ -119,7 +109,7 @@ pub gathered-new : (n : Name) (p : Packet) (rs : List Row) (i : ℕ) → Free rs
     → gathered (set rs i (record { named = Some n; packet = p })) ≡ insert n p (gathered rs)
 gathered-new n p [] i h k = absurd h
 gathered-new n p (r ∷ rs) zero h k = rw h
-gathered-new n p (r ∷ rs) (suc i) h k = let q = and_parts _ _ k in go r.named (not_parts _ q.0) (gathered-new n p rs i h q.1)
+gathered-new n p (r ∷ rs) (suc i) h k = let q = and_parts _ _ k in go r.named (not-true _ q.0) (gathered-new n p rs i h q.1)
   where
     go : (o : Option Name) → alike o (Some n) ≡ false → gathered (set rs i (record { named = Some n; packet = p })) ≡ insert n p (gathered rs)
         → placed o r.packet (gathered (set rs i (record { named = Some n; packet = p }))) ≡ insert n p (placed o r.packet (gathered rs))
@@ -183,7 +173,7 @@ distinct-same (r ∷ rs) (suc i) w h = rw (fresh-same r.named rs i w h, distinct
 
 and_from : (x y : Bool) → x ≡ true → y ≡ true → (x && y) ≡ true
 and_from true y h k = k
-and_from false y h k = absurd (true≢false (sym h))
+and_from false y h k = cc
 
 lacks-drop : (m : Name) (rs : List Row) (i : ℕ) (p : Packet) → lacks m rs ≡ true → lacks m (set rs i (record { named = None; packet = p })) ≡ true
 lacks-drop m [] i p h = h
@@ -215,7 +205,7 @@ distinct-new n (r ∷ rs) zero p f l h =
 distinct-new n (r ∷ rs) (suc i) p f l h =
     let q = and_parts (fresh r.named rs) (distinct rs) h in
     let v = and_parts (not (alike r.named (Some n))) (lacks n rs) l in
-    and_from _ _ (go r.named (not_parts _ v.0) q.0) (distinct-new n rs i p f v.1 q.1)
+    and_from _ _ (go r.named (not-true _ v.0) q.0) (distinct-new n rs i p f v.1 q.1)
   where
     go : (o : Option Name) → alike o (Some n) ≡ false → fresh o rs ≡ true → fresh o (set rs i (record { named = Some n; packet = p })) ≡ true
     go None e k = refl
@@ -228,7 +218,7 @@ total_full need (r ∷ rs) u h = go r.named h (λ e. total_full need rs u e)
   where
     go : (o : Option Name) → cond (alike o None) (Some 0) (next (position (λ r. r.named) None rs)) ≡ None
         → (position (λ r. r.named) None rs ≡ None → total need rs ≡ length rs) → need_in need r o + total need rs ≡ suc (length rs)
-    go None h rest = absurd (none_some (sym h))
+    go None h rest = cc
     go (Some m) h rest = let a = rest (none_next _ h) in let b = u (length r.packet.bytes) in omega arith
 
 pub total-within : (need : ℕ → ℕ) (rs : List Row) → ((k : ℕ) → need k ≡ 1) → total need rs ≤ length rs
@@ -266,7 +256,7 @@ holds-name n (r ∷ rs) (suc i) h = holds-name n rs i h.1
 
 -- another packet in a row leaves the names distinct
 named-at : (rs : List Row) (i : ℕ) → i < length rs → NamedAt rs i (row_at rs i).named
-named-at [] i h = absurd (let y : ⊥ = omega arith in y)
+named-at [] i h = absurd (omega arith)
 named-at (r ∷ rs) zero h = refl
 named-at (r ∷ rs) (suc i) h = named-at rs i (omega arith)
 

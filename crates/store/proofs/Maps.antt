@@ -99,9 +99,6 @@ ascending_prop (e ∷ es) x y = ×_prop (above_prop e.name es) (ascending_prop e
 pub packets_equal : (a b : Packets) → a.entries ≡ b.entries → a ≡ b
 packets_equal a b w = λ i. record { entries = w i; ascending = is_prop→PathP (λ j. Ascending (w j)) (λ j. ascending_prop (w j)) a.ascending b.ascending i }
 
-none_some : {p : Packet} → ◌≡◌ {A = Option Packet} None (Some p) → ⊥
-none_some {p} w = let z : ◌≡◌ {A = ℕ} 0 1 = cc in omega arith
-
 first-there : (x : Entry) (xs : List Entry) → lookup_in x.name (x ∷ xs) ≡ Some x.packet
 first-there x xs = rw (same_refl x.name)
 
@@ -128,12 +125,12 @@ module _ (x y : Entry) (xs ys : List Entry) (a : Ascending (x ∷ xs)) (b : Asce
 
   not_earlier : earlier x.name y.name ≡ true → ⊥
   not_earlier e =
-      none_some (sym (lookup_in-above x.name (y ∷ ys) (e, above_trans x.name y.name ys e b.0)) ∙ sym (h x.name) ∙ first-there x xs)
+      let w = sym (lookup_in-above x.name (y ∷ ys) (e, above_trans x.name y.name ys e b.0)) ∙ sym (h x.name) ∙ first-there x xs in cc
 
 pub lists_equal : (xs ys : List Entry) → Ascending xs → Ascending ys → ((q : Name) → lookup_in q xs ≡ lookup_in q ys) → xs ≡ ys
 lists_equal [] [] a b h = refl
-lists_equal [] (y ∷ ys) a b h = absurd (none_some (h y.name ∙ first-there y ys))
-lists_equal (x ∷ xs) [] a b h = absurd (none_some (sym (h x.name) ∙ first-there x xs))
+lists_equal [] (y ∷ ys) a b h = let w = h y.name ∙ first-there y ys in cc
+lists_equal (x ∷ xs) [] a b h = let w = sym (h x.name) ∙ first-there x xs in cc
 lists_equal (x ∷ xs) (y ∷ ys) a b h =
     go (earlier x.name y.name) refl (same x.name y.name) refl (λ w. lists_equal xs ys a.1 b.1 (tails x y xs ys a b h w))
   where

@@ -1,15 +1,15 @@
 -- Tables of named records, and the map that a table means: row by row, each with a name or none, and a packet.
-use Rattle.std.specs.Prelude.{◌≡◌, ℕ, suc, ◌+◌, ◌<◌, Bool, true, false, cond, not, ◌&&◌, List, [], ◌∷◌, length, is_some, Some, None, Option, slice_index_or}
+use Rattle.std.specs.Prelude.{◌≡◌, ℕ, suc, ◌+◌, ◌<◌, ◌≤◌, Bool, true, cond, not, ◌&&◌, List, [], ◌∷◌, length, is_some, Some, None, Ok, Err, Option, Result, slice_index_or}
+use Rattle.std.specs.Option.{option_eq}
 use Rattle.store.specs.declared.name.Name.{Name}
 use Rattle.store.specs.Names.{same}
-use Rattle.store.specs.Meaning.{Meaning}
+use Rattle.store.specs.declared.denial.Question.{Question}
+use Rattle.store.specs.Meaning.{Meaning, alive_no, inside_no}
 use Rattle.store.specs.Packets.{Packet, Packets, packet, empty, insert, lookup}
 
+-- whether both are one name, or none
 abbrev pub alike : Option Name → Option Name → Bool
-alike None None = true
-alike None (Some b) = false
-alike (Some a) None = false
-alike (Some a) (Some b) = same a b
+alike a b = option_eq same a b
 
 abbrev pub next : Option ℕ → Option ℕ
 next None = None
@@ -84,6 +84,21 @@ pub record Lies (rs : List Row) (n : Name) (i : ℕ) : Type 0 where
 abbrev pub Sought : List Row → Name → Option ℕ → Type 0
 Sought rs n None = lookup n (gathered rs) ≡ None
 Sought rs n (Some i) = Lies rs n i
+
+-- the place of the packet of a name, or the question about the name that is answered by no
+abbrev pub Placed : List Row → Name → Result ℕ Question → Type 0
+Placed rs n (Ok i) = Lies rs n i
+Placed rs n (Err q) = alive_no (lookup n (gathered rs)) ≡ Some q
+
+-- and where an offset is to lie inside
+abbrev pub Reached : List Row → Name → ℕ → Result ℕ Question → Type 0
+Reached rs n k (Ok i) = Lies rs n i × (k < length (row_at rs i).packet.bytes)
+Reached rs n k (Err q) = inside_no (lookup n (gathered rs)) k ≡ Some q
+
+-- What a search for a free place says, where each place is a unit: there is one exactly where there is room for a packet of that size.
+abbrev pub Vacant : (need : ℕ → ℕ) → List Row → ℕ → Option ℕ → Type 0
+Vacant need rs size None = length rs < total need rs + need size
+Vacant need rs size (Some i) = (Some i ≡ place None rs) × (total need rs + need size ≤ length rs)
 
 -- what a store of such a table means
 abbrev pub meaning_of : List Row → ℕ → ℕ → (ℕ → ℕ) → Meaning

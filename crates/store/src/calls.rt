@@ -1,4 +1,5 @@
-// The calls that can be denied, over any store: each denial carries the number of the store's kind.
+//! The calls that can be denied, over any store: each denial carries the number of the store's kind.
+
 ghost use Rattle.std.specs.Prelude.{◌≡◌};
 ghost use Rattle.store.specs.Meaning.{with_kind, room_for, make_answer, make_after, discard_answer, discard_after, write_answer, write_after, hand_answer, hand_after, size_answer, holder_answer, read_answer};
 
@@ -8,70 +9,70 @@ use crate::store::Store;
 
 // The answer with the number of the store's kind in its denial.
 fn marked<S: Store, X>(answer: Result<X, Question>) -> Result<X, Denial>
-    ensures { result ≡ with_kind S.Store.kind answer }
+    ensures { result ≡ with_kind S.KIND answer }
 {
-    match answer {
-        Ok(x) => Ok(x),
-        Err(question) => Err(Denial {
-            question,
-            kind: S::kind_number(),
-        }),
-    }
+    answer.map_err(|question| Denial {
+        question,
+        kind: S::KIND,
+    })
 }
 
+/// [`Store::make`], with the store's kind in a denial.
 pub fn make<S: Store>(store: &mut S, name: Name, size: usize) -> Result<(), Denial>
-    ensures answer { S.Store.made store.old → result ≡ with_kind S.Store.kind (make_answer (S.Store.meaning store.old) name size) }
-    ensures after { S.Store.made store.old → S.Store.meaning store.new ≡ make_after (S.Store.meaning store.old) name size }
-    ensures stays { S.Store.made store.old → S.Store.made store.new }
+    ensures answer { result ≡ with_kind S.KIND (make_answer (S.meaning store.old) name size) }
+    ensures after { S.meaning store.new ≡ make_after (S.meaning store.old) name size }
 {
-    marked::<S, ()>(store.make(name, size))
+    marked::<S, _>(store.make(name, size))
 }
 
+/// [`Store::discard`], with the store's kind in a denial.
 pub fn discard<S: Store>(store: &mut S, name: Name) -> Result<(), Denial>
-    ensures answer { S.Store.made store.old → result ≡ with_kind S.Store.kind (discard_answer (S.Store.meaning store.old) name) }
-    ensures after { S.Store.made store.old → S.Store.meaning store.new ≡ discard_after (S.Store.meaning store.old) name }
-    ensures stays { S.Store.made store.old → S.Store.made store.new }
+    ensures answer { result ≡ with_kind S.KIND (discard_answer (S.meaning store.old) name) }
+    ensures after { S.meaning store.new ≡ discard_after (S.meaning store.old) name }
 {
-    marked::<S, ()>(store.discard(name))
+    marked::<S, _>(store.discard(name))
 }
 
+/// [`Store::write`], with the store's kind in a denial.
 pub fn write<S: Store>(store: &mut S, name: Name, offset: usize, byte: u8) -> Result<(), Denial>
-    ensures answer { S.Store.made store.old → result ≡ with_kind S.Store.kind (write_answer (S.Store.meaning store.old) name offset) }
-    ensures after { S.Store.made store.old → S.Store.meaning store.new ≡ write_after (S.Store.meaning store.old) name offset byte }
-    ensures stays { S.Store.made store.old → S.Store.made store.new }
+    ensures answer { result ≡ with_kind S.KIND (write_answer (S.meaning store.old) name offset) }
+    ensures after { S.meaning store.new ≡ write_after (S.meaning store.old) name offset byte }
 {
-    marked::<S, ()>(store.write(name, offset, byte))
+    marked::<S, _>(store.write(name, offset, byte))
 }
 
+/// [`Store::hand`], with the store's kind in a denial.
 pub fn hand<S: Store>(store: &mut S, name: Name, holder: u8) -> Result<Handed, Denial>
-    ensures answer { S.Store.made store.old → result ≡ with_kind S.Store.kind (hand_answer (S.Store.meaning store.old) name) }
-    ensures after { S.Store.made store.old → S.Store.meaning store.new ≡ hand_after (S.Store.meaning store.old) name holder }
-    ensures stays { S.Store.made store.old → S.Store.made store.new }
+    ensures answer { result ≡ with_kind S.KIND (hand_answer (S.meaning store.old) name) }
+    ensures after { S.meaning store.new ≡ hand_after (S.meaning store.old) name holder }
 {
-    marked::<S, Handed>(store.hand(name, holder))
+    marked::<S, _>(store.hand(name, holder))
 }
 
+/// [`Store::size`], with the store's kind in a denial.
 pub fn size<S: Store>(store: &S, name: Name) -> Result<usize, Denial>
-    ensures { S.Store.made store.now → result ≡ with_kind S.Store.kind (size_answer (S.Store.meaning store.now) name) }
+    ensures { result ≡ with_kind S.KIND (size_answer (S.meaning store.now) name) }
 {
-    marked::<S, usize>(store.size(name))
+    marked::<S, _>(store.size(name))
 }
 
+/// [`Store::holder`], with the store's kind in a denial.
 pub fn holder<S: Store>(store: &S, name: Name) -> Result<u8, Denial>
-    ensures { S.Store.made store.now → result ≡ with_kind S.Store.kind (holder_answer (S.Store.meaning store.now) name) }
+    ensures { result ≡ with_kind S.KIND (holder_answer (S.meaning store.now) name) }
 {
-    marked::<S, u8>(store.holder(name))
+    marked::<S, _>(store.holder(name))
 }
 
+/// [`Store::read`], with the store's kind in a denial.
 pub fn read<S: Store>(store: &S, name: Name, offset: usize) -> Result<u8, Denial>
-    ensures { S.Store.made store.now → result ≡ with_kind S.Store.kind (read_answer (S.Store.meaning store.now) name offset) }
+    ensures { result ≡ with_kind S.KIND (read_answer (S.meaning store.now) name offset) }
 {
-    marked::<S, u8>(store.read(name, offset))
+    marked::<S, _>(store.read(name, offset))
 }
 
-// Whether a packet of that size has room now, the answer to question 62.
+/// Whether a packet of that size has room now, the answer to question 62.
 pub fn has_room<S: Store>(store: &S, size: usize) -> bool
-    ensures { S.Store.made store.now → result ≡ room_for (S.Store.meaning store.now) size }
+    ensures { result ≡ room_for (S.meaning store.now) size }
 {
-    store.need(size) <= store.capacity().saturating_sub(store.used())
+    store.need(size) <= store.capacity() - store.used()
 }

@@ -1,24 +1,19 @@
-use Rattle.std.proofs.Common.{◌≡◌, ℕ, ap, ◌∙◌, subst, arith}
-use Rattle.std.specs.Result.{result_unwrap_or}
+use Rattle.std.proofs.Common.{◌≡◌, ℕ, subst, arith}
 use Rattle.split.specs.Carry.{Carried}
 use Rattle.split.proofs.Carrying.{carried_none, carried_more, byte_read}
 use Rattle.split.proofs.carry.carry.Goals as goal
 
 pub loop-i-init : goal.loop-i-init
-loop-i-init g c = λ a b. (b, carried_none (g.X.Store.meaning c.args.from.now) (g.Y.Store.meaning c.args.to.now) c.args.name c.args.size)
+loop-i-init g c = carried_none (g.X.Store.meaning c.args.from.now) (g.Y.Store.meaning c.args.to.now) c.args.name c.args.size
 
 pub loop-i-preserved : goal.loop-i-preserved
-loop-i-preserved g c = λ a b.
-    let old = c.loop-i.invariant a b in
-    let from = g.X.Store.meaning c.args.from.now in (
-      c.write.ensures.stays old.0,
-      carried_more from (g.Y.Store.meaning c.args.to.now) (g.Y.Store.meaning c.loop-i.to) (g.Y.Store.meaning c.write.new.self) c.args.name c.args.size c.loop-i.i _ old.1 c.loop-i-test.true
-          (λ p e l. c.unwrap_or-byte.ensures ∙ ap (λ r. result_unwrap_or r 0) (c.read.ensures a) ∙ byte_read from c.args.name c.loop-i.i p e (omega (arith, c.loop-i-test.true)))
-          (c.write.ensures.after old.0),
-    )
+loop-i-preserved g c =
+    let from = g.X.Store.meaning c.args.from.now in
+    carried_more from (g.Y.Store.meaning c.args.to.now) (g.Y.Store.meaning c.loop-i.to) (g.Y.Store.meaning c.write.new.self) c.args.name c.args.size c.loop-i.i _ c.loop-i.invariant c.loop-i-test.true
+    (λ p e l. byte_read from c.args.name c.loop-i.i c.read.result _ c.unwrap_or-byte.ensures c.read.ensures p e (omega (arith, c.loop-i-test.true)))
+    c.write.ensures.after
 
 pub returns : goal.returns
-returns g c = λ a b.
+returns g c =
     let e : c.loop-i.i ≡ c.args.size = omega (arith, c.loop-i-test.false, c.loop-i.auto.i-end) in
-    let old = c.loop-i.invariant a b in
-    (old.0, subst (λ (k : ℕ). Carried (g.X.Store.meaning c.args.from.now) (g.Y.Store.meaning c.args.to.now) (g.Y.Store.meaning c.loop-i.to) c.args.name c.args.size k) e old.1)
+    subst (λ (k : ℕ). Carried (g.X.Store.meaning c.args.from.now) (g.Y.Store.meaning c.args.to.now) (g.Y.Store.meaning c.loop-i.to) c.args.name c.args.size k) e c.loop-i.invariant

@@ -1,29 +1,19 @@
-use Rattle.std.proofs.Common.{sym, ◌∙◌}
-use Rattle.store.specs.Meaning.{found}
-use Rattle.split.proofs.States.{in_none, in_near, in-far, size_known, size_denied, size_error}
+use Rattle.std.proofs.Common.{refl}
+use Rattle.split.proofs.States.{nowhere, lies-near, lies-beyond}
 use Rattle.split.proofs.split.Split.place.Goals as goal
 
 pub returns-then-not-self : goal.returns-then-not-self
-returns-then-not-self g c = λ _ _. in_none (g.N.Store.meaning c.args.self.now.near) (g.F.Store.meaning c.args.self.now.far) c.args.name c.args.self.now.clean c.if-not-self.true
+returns-then-not-self g c =
+    let s = c.args.self.now in
+    (refl, nowhere (g.N.Store.meaning s.near) (g.F.Store.meaning s.far) c.args.name s.clean c.if-not-self.true)
 
 pub returns-in-Ok : goal.returns-in-Ok
-returns-in-Ok g c = λ s t.
-    let a = g.N.Store.meaning c.args.self.now.near in
-    let b = g.F.Store.meaning c.args.self.now.far in
-    let z = size_known (found a c.args.name) c.in-Ok.size (c.in-Ok.ensures s) in
-    record { live = c.if-not-self.false; packet = z.0; there = z.1; sized = z.2; seen = in_near a b c.args.name c.args.self.now.clean z.0 c.if-not-self.false z.1 }
-
-pub returns-in-Ok-size : goal.returns-in-Ok-size
-returns-in-Ok-size g c = λ s t.
-    let a = g.N.Store.meaning c.args.self.now.near in
-    let b = g.F.Store.meaning c.args.self.now.far in
-    let o = size_denied (found a c.args.name) c.size.result (c.size.ensures s) c.in_default.not-Ok in
-    let z = size_known (found b c.args.name) c.in-Ok-size.size (c.in-Ok-size.ensures t) in
-    (o, record { live = c.if-not-self.false; packet = z.0; there = z.1; sized = z.2; seen = in-far a b c.args.name c.args.self.now.clean c.if-not-self.false o })
+returns-in-Ok g c =
+    let s = c.args.self.now in
+    lies-near (g.N.Store.meaning s.near) (g.F.Store.meaning s.far) c.args.name s.clean c.if-not-self.false c.in-Ok.size c.in-Ok.ensures
 
 pub returns-in-Err : goal.returns-in-Err
-returns-in-Err g c = λ s t.
-    let a = g.N.Store.meaning c.args.self.now.near in
-    let b = g.F.Store.meaning c.args.self.now.far in
-    let o = size_denied (found a c.args.name) c.size.result (c.size.ensures s) c.in_default.not-Ok in
-    sym (in-far a b c.args.name c.args.self.now.clean c.if-not-self.false o) ∙ size_error (found b c.args.name) (c.in-Err.ensures t)
+returns-in-Err g c =
+    let s = c.args.self.now in
+    lies-beyond (g.N.Store.meaning s.near) (g.F.Store.meaning s.far) c.args.name s.clean c.if-not-self.false c.in-Err.ensures c.size-in-Err.result c.size-in-Err.ensures c.map.result
+    c.map.ensures.cases

@@ -1,6 +1,0 @@
-use Rattle.std.proofs.Common.{◌≡◌}
-use Rattle.chain.specs.Cells.{nth_cell}
-use Rattle.chain.proofs.cells.cell_at.Given as goal
-
-abbrev pub invariant-loop : goal.invariant-loop
-invariant-loop l = l.cell ≡ nth_cell l.links l.first l.counter

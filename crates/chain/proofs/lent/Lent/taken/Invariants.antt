@@ -1,6 +1,0 @@
-use Rattle.std.proofs.Common.{◌≡◌, ◌+◌, drop}
-use Rattle.chain.specs.Chains.{needs_of}
-use Rattle.chain.proofs.lent.Lent.taken.Given as goal
-
-abbrev pub invariant-loop-head : goal.invariant-loop-head
-invariant-loop-head l = l.sum + needs_of (drop l.head-index l.self.heads.now) ≡ needs_of l.self.heads.now

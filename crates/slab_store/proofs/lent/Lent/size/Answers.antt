@@ -1,5 +1,0 @@
-use Rattle.slab_store.proofs.Changes.{size_is}
-use Rattle.slab_store.proofs.lent.Lent.size.Goals as goal
-
-pub returns : goal.returns
-returns c = let l = c.args.self.now in size_is l.slots.now l.memory.now c.args.slot c.requires.within c.requires.whole c.index-self-slot.result

@@ -1,0 +1,11 @@
+use Rattle.std.proofs.Common.{arith}
+use Rattle.store.proofs.Kept.{kept-units}
+use Rattle.store.proofs.lent_store.LentStoreStore.used.Goals as goal
+
+pub returns-clause-value : goal.returns-clause-value
+returns-clause-value g c =
+    let u = kept-units (g.L.Lent.rows c.args.self.now.lent) g.L.Lent.largest g.L.Lent.need c.args.self.now.apart in omega arith
+
+pub returns-clause-within : goal.returns-clause-within
+returns-clause-within g c =
+    let u = kept-units (g.L.Lent.rows c.args.self.now.lent) g.L.Lent.largest g.L.Lent.need c.args.self.now.apart in omega arith
