@@ -24,7 +24,7 @@ abbrev pub joined : List ℕ → List ℕ → List ℕ
 joined memory [] = []
 joined memory (c ∷ cs) = cell_bytes c memory ++ joined memory cs
 
--- how often c stands in a list
+-- how often c stands in a list, by its own recursion, which the inductions over cells follow
 abbrev pub hit : ℕ → ℕ → ℕ
 hit c d = cond (c == d) 1 0
 

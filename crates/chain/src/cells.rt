@@ -77,6 +77,7 @@ impl<'a> Cells<'a> {
         ensures spare { self.new.spare ≡ self.old.spare }
     {
         let mut cell = first;
+        // A number of steps: each cell is found from the one before.
         for _ in 0..amount {
             let start = CELL * cell;
             clear(&mut self.memory[start..start + CELL]);

@@ -11,6 +11,7 @@ use crate::walks::{Call, Walk};
 use reader::faults::Fault;
 use reader::nodes::Node;
 
+// That the body reads is a premise here, in `enter`, `bind` and `is_tail`: each speaks of the tree `t` that it reads as.
 impl Walk<'_> {
     /// Puts the questions about a body under `ifs` ifs, node after node; the place after it.
     /// Each branch of an if starts from the marks that stood before it.

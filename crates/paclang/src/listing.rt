@@ -85,7 +85,8 @@ fn list_types(rt: &HostRuntime, reader: &mut Reader) -> io::Result<usize> {
 fn list_nodes(rt: &HostRuntime, mut reader: Reader, first: Level) -> io::Result<()> {
     let mut open = Vec::new(rt.alloc());
     let mut level = first;
-    for _node in 0..reader.window.bytes.len() {
+    // No more nodes than bytes: a bound, so that the loop ends.
+    for _ in 0..reader.window.bytes.len() {
         let place = reader.place;
         let Ok(node) = reader.node(0) else {
             return Ok(());

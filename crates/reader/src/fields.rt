@@ -133,7 +133,8 @@ impl<'a> Window<'a> {
         ensures { (one : ℕ → Read T) → ReadsAs (F.post item) self.now one → result ≡ skipped one count place }
     {
         let mut next = place;
-        for _i in 0..count {
+        // A number of steps: items have no one width, so that no slice has them.
+        for _ in 0..count {
             (_, next) = item(self, next)?;
         }
         Ok(next)

@@ -31,6 +31,7 @@ pub enum Connective {
 }
 
 /// The callee of a call. Whether a queue or a function of that number exists is asked later.
+// Queues by number, the two shared ones too: a number past the last queue is read as well, and denied later.
 #[derive(Debug, Clone, Copy, PartialEq, Eq)]
 pub enum Operation {
     Compute(Arithmetic),

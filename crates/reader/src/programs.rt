@@ -69,6 +69,7 @@ fn records(program: &[u8], count: u8, place: usize) -> Result<usize, Fault>
     ensures { result ≡ placed (records_at program.now (length program.now) count 0 place) }
 {
     let mut next = place;
+    // By number, which the fault of a record carries.
     for function in 0..count {
         next = record(program, function, next)?;
     }

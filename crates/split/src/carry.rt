@@ -9,6 +9,7 @@ use store::{Handed, Name, Question, Store};
 fn carry<X: Store, Y: Store>(from: &X, to: &mut Y, name: Name, size: usize)
     ensures { Carried (X.meaning from.now) (Y.meaning to.old) (Y.meaning to.new) name size size }
 {
+    // By offset: a store gives and takes single bytes.
     for i in 0..size {
         let byte = from.read(name, i).unwrap_or(0);
         let _ = to.write(name, i, byte);

@@ -28,6 +28,7 @@ impl Question {
 }
 
 /// The question that was answered by no, and the number of the store's kind.
+// A number and no enum: a store written elsewhere has a kind of its own.
 #[derive(Debug, Clone, Copy, PartialEq, Eq)]
 pub struct Denial {
     pub question: Question,

@@ -10,7 +10,7 @@ use reader::types::Ty;
 use reader::windows::Window;
 use rows::row::Row;
 
-// The reader's `skip` drops what this keeps: one function for both would hand each item to an `FnMut`, whose clause is longer than this loop.
+// The reader's `signature` and `skip` drop what these keep: one function for both would hand each item to an `FnMut`, whose clause is longer than this loop.
 /// `count` types, and the place after them.
 fn types(window: &Window, count: u8, place: usize) -> Result<(Row<Ty, 8>, usize), Fault>
     requires { count ≤ 8 }

@@ -27,6 +27,7 @@ fn places(program: &[u8], count: u8) -> Row<usize, 64>
 {
     let mut places = Row::new(0);
     let mut place = 6;
+    // A number of steps: each place is found from the one before.
     for _ in 0..count {
         places.push(place).unwrap();
         place = place_after(program, place);

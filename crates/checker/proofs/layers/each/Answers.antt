@@ -1,5 +1,5 @@
 use Rattle.std.proofs.Common.{◌≡◌, Ok, Err, ◌∙◌, arith, rules}
-use Rattle.checker.proofs.Each.{led_next, led_fault, led_all}
+use Rattle.checker.proofs.Each.{led_next, led_fault}
 use Rattle.checker.proofs.layers.each.Goals as goal
 
 pub returns-in_err-ask : goal.returns-in_err-ask
@@ -13,6 +13,3 @@ pub loop-function-preserved : goal.loop-function-preserved
 loop-function-preserved g c asks Fs n h =
     let i = c.loop-function.function in
     led_next asks Fs i (omega arith) (c.loop-function.invariant asks Fs n h) (λ F at. h i F (Ok tt) at c.in_ok-ask.ensures)
-
-pub returns : goal.returns
-returns g c asks Fs n h = led_all asks Fs c.loop-function.function (omega arith) (c.loop-function.invariant asks Fs n h)

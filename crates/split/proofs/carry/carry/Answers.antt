@@ -1,5 +1,4 @@
-use Rattle.std.proofs.Common.{◌≡◌, ℕ, subst, arith}
-use Rattle.split.specs.Carry.{Carried}
+use Rattle.std.proofs.Common.{arith}
 use Rattle.split.proofs.Carrying.{carried_none, carried_more, byte_read}
 use Rattle.split.proofs.carry.carry.Goals as goal
 
@@ -12,8 +11,3 @@ loop-i-preserved g c =
     carried_more from (g.Y.Store.meaning c.args.to.now) (g.Y.Store.meaning c.loop-i.to) (g.Y.Store.meaning c.write.new.self) c.args.name c.args.size c.loop-i.i _ c.loop-i.invariant c.loop-i-test.true
     (λ p e l. byte_read from c.args.name c.loop-i.i c.read.result _ c.unwrap_or-byte.ensures c.read.ensures p e (omega (arith, c.loop-i-test.true)))
     c.write.ensures.after
-
-pub returns : goal.returns
-returns g c =
-    let e : c.loop-i.i ≡ c.args.size = omega (arith, c.loop-i-test.false, c.loop-i.auto.i-end) in
-    subst (λ (k : ℕ). Carried (g.X.Store.meaning c.args.from.now) (g.Y.Store.meaning c.args.to.now) (g.Y.Store.meaning c.loop-i.to) c.args.name c.args.size k) e c.loop-i.invariant

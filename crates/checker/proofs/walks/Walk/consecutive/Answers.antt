@@ -1,5 +1,5 @@
 use Rattle.std.proofs.Common.{◌+◌, ◌-◌, arith}
-use Rattle.checker.proofs.Tails.{trailing_all, trailing_next, trailing_reads, trailing_none}
+use Rattle.checker.proofs.Tails.{trailing_all, trailing_next, trailing_reads}
 use Rattle.checker.proofs.walks.Walk.consecutive.Goals as goal
 
 pub loop-number-init : goal.loop-number-init
@@ -22,6 +22,3 @@ loop-number-preserved c vs h =
     let w = c.args.self.now.window in
     let k = c.loop-number.number in
     trailing_next w k _ c.loop-number.place _ (c.loop-number.invariant vs h) (c.args.first + c.from.result - (k + 1)) c.in-Ok.value c.in-Ok.next _ (omega arith) c.in-Ok.ensures.reads c.if-not-is_variable.ensures
-
-pub returns : goal.returns
-returns c vs h = trailing_none c.args.self.now.window c.loop-number.number _ c.loop-number.place _ (c.loop-number.invariant vs h) (omega arith)
