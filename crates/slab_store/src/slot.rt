@@ -6,7 +6,7 @@ ghost use Rattle.slab_store.specs.Labels.{name_of};
 use store::{Label, Name, Named};
 
 /// What a slab keeps of one slot: the label of the packet in it, or none.
-#[derive(Clone, Copy)]
+#[derive(Debug, Clone, Copy, PartialEq, Eq)]
 pub struct Slot {
     pub(crate) label: Option<Label>,
     ghost small: { (l : Label) → label ≡ Some l → l.size ≤ 256 },
