@@ -24,11 +24,9 @@ pub fn chain_over<'a>(
     ensures need { (⟦<Chain<'a> as Store>⟧.meaning result).need ≡ chain_need }
 {
     let count = heads.len().min(links.len()).min(memory.len() / CELL);
-    LentStore {
-        lent: Cells::over(
-            &mut memory[..CELL * count],
-            &mut links[..count],
-            &mut heads[..count],
-        ),
-    }
+    LentStore::over(Cells::over(
+        &mut memory[..CELL * count],
+        &mut links[..count],
+        &mut heads[..count],
+    ))
 }

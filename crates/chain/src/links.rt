@@ -10,7 +10,7 @@ pub(crate) fn cell_at(links: &[usize], first: usize, steps: usize) -> usize
     (0..steps).fold(first, |cell, _| next_cell(links, cell))
 }
 
-// The cell that a cell's link names; 0 past the table, as the definition of a walk has it, and no `Option`: links of a chain name cells alone.
+// The cell that a cell's link names; 0 past the table and no `Option`, as the definition of a walk has it; no walk over a packet's cells gets there.
 fn next_cell(links: &[usize], cell: usize) -> usize
     ensures { result ≡ step links.now cell }
 {

@@ -10,6 +10,7 @@ use reader::windows::Window;
 use records::tables::{Record, Table};
 
 /// The function whose body is walked, in its program.
+// Holds rows, which have no equality.
 #[derive(Clone, Copy)]
 pub(crate) struct Walk<'a> {
     pub(crate) table: Table<'a>,
@@ -28,7 +29,7 @@ impl Walk<'_> {
 }
 
 /// A call node, and the place of the node behind it.
-#[derive(Clone, Copy)]
+#[derive(Debug, Clone, Copy, PartialEq, Eq)]
 pub(crate) struct Call {
     pub(crate) place: usize,
     pub(crate) operation: Operation,

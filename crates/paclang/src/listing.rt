@@ -14,7 +14,7 @@ use std::iter::from_fn;
 use std::process::ExitCode;
 
 /// How deep a node stands under ifs, and how many variables are bound before it.
-#[derive(Clone, Copy)]
+#[derive(Debug, Clone, Copy, PartialEq, Eq)]
 struct Level {
     ifs: u8,
     bound: usize,

@@ -47,6 +47,7 @@ pub enum Refusal {
 }
 
 impl Refusal {
+    // Two cases, each with the number of a question of its own enum: no discriminant has it.
     pub fn number(self) -> u8
         ensures { result ≡ refusal_number self }
     {

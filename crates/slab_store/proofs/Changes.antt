@@ -13,7 +13,7 @@ use Rattle.store.proofs.Blocks.{take-set, block-set, others-set, block-put, othe
 use Rattle.store.proofs.Gathered.{free_from, total_full, total-free}
 use Rattle.slab_store.specs.declared.slot.Slot.{Slot}
 use Rattle.slab_store.specs.Labels.{name_of}
-use Rattle.slab_store.specs.Slabs.{row, slab_rows, label_at, empty_slab, one_if, taken}
+use Rattle.slab_store.specs.Slabs.{row, slab_rows, label_at, empty_slab}
 
 named-row : (o : Option Label) (bytes : List ℕ) → (row o bytes).named ≡ name_of o
 named-row None bytes = refl
@@ -201,6 +201,15 @@ module _ (ss : List Slot) (memory : List ℕ) (i : ℕ) (whole : length memory �
   rows-put b = put ss memory i label.0 label.1 there whole off lt b
 
 -- ---- a loop over the records
+-- how many slots have a packet
+abbrev pub one_if : Option Label → ℕ
+one_if None = 0
+one_if (Some l) = 1
+
+abbrev pub taken : List Slot → ℕ
+taken [] = 0
+taken (s ∷ ss) = one_if s.label + taken ss
+
 pub total-rows : (ss : List Slot) (memory : List ℕ) → total (λ _. 1) (slab_rows ss memory) ≡ taken ss
 total-rows [] memory = refl
 total-rows (s ∷ ss) memory = go s.label (total-rows ss (drop 256 memory))

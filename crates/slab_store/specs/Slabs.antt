@@ -1,5 +1,5 @@
 -- A slab's table and memory, as rows: slot i has the 256 bytes from 256 * i on.
-use Rattle.std.specs.Prelude.{◌≡◌, ℕ, zero, suc, ◌+◌, ◌*◌, List, [], ◌∷◌, length, take, drop, Some, None, Option}
+use Rattle.std.specs.Prelude.{◌≡◌, ℕ, zero, suc, ◌*◌, List, [], ◌∷◌, length, take, drop, Some, None, Option}
 use Rattle.slab_store.specs.declared.slot.Slot.{Slot}
 use Rattle.slab_store.specs.declared.slots.Slots.{Slots}
 use Rattle.store.specs.declared.label.Label.{Label}
@@ -32,12 +32,3 @@ Whole l = length l.memory.now ≡ 256 * length l.slots.now
 -- a slab of so many slots without packets
 abbrev pub empty_slab : ℕ → Meaning
 empty_slab slots = record { packets = empty; largest = 256; capacity = slots; need = λ _. 1 }
-
--- how many slots have a packet
-abbrev pub one_if : Option Label → ℕ
-one_if None = 0
-one_if (Some l) = 1
-
-abbrev pub taken : List Slot → ℕ
-taken [] = 0
-taken (s ∷ ss) = one_if s.label + taken ss

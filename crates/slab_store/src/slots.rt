@@ -32,9 +32,7 @@ pub fn slab_over<'a>(memory: &'a mut [u8], slots: &'a mut [Slot]) -> Slab<'a>
     let memory = &mut memory[..SLOT * count];
     let slots = &mut slots[..count];
     slots.fill(Slot::free());
-    LentStore {
-        lent: Slots { memory, slots },
-    }
+    LentStore::over(Slots { memory, slots })
 }
 
 impl Slots<'_> {
@@ -120,6 +118,7 @@ impl Lent for Slots<'_> {
     }
 
     fn used(&self) -> usize {
+        // Record by record, as the sum is defined.
         let mut sum = 0;
         for slot in self.slots.iter() {
             if slot.label.is_some() {

@@ -5,6 +5,8 @@ ghost use Rattle.split.specs.Carry.{Carried, Copied, Moved};
 
 use store::{Handed, Name, Question, Store};
 
+// `from`, `to`, `name` and `size` are no struct: the two stores are borrowed anew for each call, and differently.
+
 // Copies the bytes of a packet of that name and size from one store to another, which has one of the same name and size.
 fn carry<X: Store, Y: Store>(from: &X, to: &mut Y, name: Name, size: usize)
     ensures { Carried (X.meaning from.now) (Y.meaning to.old) (Y.meaning to.new) name size size }

@@ -21,7 +21,7 @@ pub struct Split<N: Store, F: Store> {
 }
 
 // Where a packet lies, and its size.
-#[derive(Clone, Copy)]
+#[derive(Debug, Clone, Copy, PartialEq, Eq)]
 pub(crate) enum Place {
     Near(usize),
     Far(usize),

@@ -7,6 +7,7 @@ ghost use Rattle.store.specs.Rows.{Row, Vacant, place, row_at, row_of, blank, wi
 use crate::name::Name;
 
 /// Memory in places for packets, with a table of records of what lies where. A place counts as one unit of the capacity.
+// What a call needs is a `requires`, as of any inner call, and `sound` no ghost field of each kind of memory: links and heads break it between two writes.
 pub trait Lent {
     /// What the table and the memory mean, place by place.
     ghost rows: { Self → List Row };

@@ -11,12 +11,21 @@ use crate::store::Store;
 /// A store of kind `K` that keeps its packets in places of lent memory.
 #[derive(Drop)]
 pub struct LentStore<L: Lent, const K: u8> {
-    pub lent: L,
+    lent: L,
     ghost sound: { L.sound lent } by { L.is_fact lent },
     ghost apart: { distinct (L.rows lent) ≡ true },
 }
 
 impl<L: Lent, const K: u8> LentStore<L, K> {
+    /// The store over memory whose table says what its places hold. The makers of each kind of store call it.
+    pub fn over(lent: L) -> LentStore<L, K>
+        requires sound { L.sound lent }
+        requires apart { distinct (L.rows lent) ≡ true }
+        ensures { ⟦<LentStore<L, K> as Store>⟧.meaning result ≡ meaning_of (L.rows lent) L.largest (length (L.rows lent)) L.need }
+    {
+        LentStore { lent }
+    }
+
     /// The place of the packet of that name, which is to be alive.
     fn place(&self, name: Name) -> Result<usize, Question>
         ensures { Placed (L.rows self.now.lent) name result }

@@ -1,8 +1,7 @@
 use Rattle.std.proofs.Common.{◌≡◌, ◌+◌, [], ◌∷◌, ◌++◌, take, sym, ap, ◌∙◌, arith}
 use Rattle.std.proofs.lemmas.List.{take_more, take_all}
 use Rattle.slab_store.specs.declared.slot.Slot.{Slot}
-use Rattle.slab_store.specs.Slabs.{taken, one_if}
-use Rattle.slab_store.proofs.Changes.{length-rows, total-rows, taken-append, taken-within, one_some, one_none}
+use Rattle.slab_store.proofs.Changes.{taken, one_if, length-rows, total-rows, taken-append, taken-within, one_some, one_none}
 use Rattle.slab_store.proofs.slots.SlotsLent.used.Goals as goal
 use Rattle.slab_store.proofs.slots.SlotsLent.used.Goals.{then-is_some, else-is_some}
 

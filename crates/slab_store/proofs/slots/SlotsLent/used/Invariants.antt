@@ -1,5 +1,5 @@
 use Rattle.std.proofs.Common.{◌≡◌, ◌≤◌, take}
-use Rattle.slab_store.specs.Slabs.{taken}
+use Rattle.slab_store.proofs.Changes.{taken}
 use Rattle.slab_store.proofs.slots.SlotsLent.used.Given as goal
 
 abbrev pub invariant-loop-slot : goal.invariant-loop-slot
