@@ -24,7 +24,7 @@ impl Walk<'_> {
     fn known(&self, marks: &Marks, operand: Operand) -> Result<Option<Ty>, Fault>
         ensures { result ≡ sighted self.now.window.function (context marks.now) operand }
     {
-        // The fault is made whether or not it is needed: with a closure the proof does not close.
+        // The fault is made whether or not it is needed: with `ok_or_else` the check answers "`search` did not prove `returns`".
         marks
             .seen(operand.value)
             .ok_or(self.fault(Question::Bound, operand.place))

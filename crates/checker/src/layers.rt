@@ -15,7 +15,7 @@ fn each<A: Fn(u8) -> Result<(), Fault>>(functions: u8, ask: A) -> Result<(), Fau
     requires { A.IsAlwaysCallable ask }
     ensures { (asks : _) (Fs : List Function) → length Fs ≡ functions → Answers (A.post ask) asks Fs → result ≡ each asks 0 Fs }
 {
-    // By number: a table has no list of functions.
+    // By number, which the questions and their faults name.
     for function in 0..functions {
         ask(function)?;
     }

@@ -45,6 +45,7 @@ impl Walk<'_> {
         ensures { (vs : List Placed) → Holds self.now.window values vs → changed result marks.new ≡ gives self.now.window.function (context marks.old) [] vs (items wanted.now) }
     {
         let mut named = Row::new(0);
+        // The place goes along by hand, here and below: an iterator over the values would owe a relation of what it yields.
         let mut place = values.place;
         for ty in wanted.as_slice() {
             let (value, next) = self.window.value(place)?;

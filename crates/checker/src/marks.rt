@@ -9,7 +9,7 @@ use reader::values::Value;
 use rows::row::Row;
 
 /// What is known of each variable that the path has bound; of a spent owner nothing is.
-// Holds a row, which has no equality.
+// Holds a row: a derived equality would compare what lies past its end.
 #[derive(Clone, Copy)]
 pub(crate) struct Marks {
     pub(crate) entries: Row<Option<Ty>, 16>,

@@ -10,7 +10,8 @@ use reader::windows::Window;
 use records::tables::{Record, Table};
 
 /// The function whose body is walked, in its program.
-// Holds rows, which have no equality.
+// The marks are no field: a walk stays as it is while they change, and each branch begins with a copy of them.
+// Holds rows: a derived equality would compare what lies past their ends.
 #[derive(Clone, Copy)]
 pub(crate) struct Walk<'a> {
     pub(crate) table: Table<'a>,

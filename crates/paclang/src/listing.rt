@@ -35,6 +35,7 @@ pub(crate) fn list_file(rt: &HostRuntime, path: &str) -> io::Result<ExitCode> {
 fn list_program(rt: &HostRuntime, program: &[u8], header: Header) -> io::Result<()> {
     println!(rt; "{:>5}  program: {header}", 0)?;
     let mut place = 6;
+    // By number, which the listing names.
     for function in 0..header.functions {
         let Ok((window, start)) = Window::record(program, function, place) else {
             return Ok(());
@@ -135,6 +136,7 @@ fn print_else(rt: &HostRuntime, level: Level) -> io::Result<()> {
 }
 
 /// The variables that a call binds.
+// Not by `print_list`: these are numbers of variables, without brackets.
 fn print_results(rt: &HostRuntime, bound: usize, results: u8) -> io::Result<()> {
     for variable in bound..bound.saturating_add(usize::from(results)) {
         let comma = if variable > bound { ", " } else { "" };

@@ -90,6 +90,7 @@ impl<'a> Window<'a> {
         ensures onward { Onward place (length self.now.bytes.now) result }
     {
         let (code, next) = self.byte(place)?;
+        // Made whether or not it is needed: of a closure that reads `self` the check knows no answer.
         let unknown = self.fault(Question::KnownType, place);
         let ty = Ty::try_from(code).map_err(|_| unknown)?;
         Ok((ty, next))

@@ -31,7 +31,7 @@ pub enum Connective {
 }
 
 /// The callee of a call. Whether a queue or a function of that number exists is asked later.
-// Queues by number, the two shared ones too: a number past the last queue is read as well, and denied later.
+// Queues by number, the two shared ones too, as the definitions of types and rules name them.
 #[derive(Debug, Clone, Copy, PartialEq, Eq)]
 pub enum Operation {
     Compute(Arithmetic),

@@ -7,11 +7,7 @@ ghost use Rattle.reader.specs.Encoding.{ReadsBack, WrittenReads};
 use crate::faults::Fault;
 use crate::headers::Header;
 use crate::questions::Question;
-use crate::windows::Window;
-
-/// The function that a fault outside records carries.
-// A number and no `Option`: a denial is reported with it.
-const OUTSIDE: u8 = 255;
+use crate::windows::{OUTSIDE, Window};
 
 impl Window<'_> {
     /// The place after a count and that many types.

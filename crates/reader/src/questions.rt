@@ -50,6 +50,7 @@ impl Question {
     pub fn layer(self) -> u8
         ensures { result ≡ layer self }
     {
+        // Three ranges of the number say it shorter than a match of all cases.
         match self.number() {
             0..=39 => 1,
             40..=49 => 2,

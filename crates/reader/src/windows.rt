@@ -6,10 +6,14 @@ ghost use Rattle.reader.specs.Fields.{half};
 use crate::faults::Fault;
 use crate::questions::Question;
 
+/// The function that a fault outside records carries.
+pub const OUTSIDE: u8 = 255;
+
 /// The caller's bytes up to the end of a record or of the program, and the function that a fault there carries.
 #[derive(Clone, Copy, Debug, PartialEq, Eq)]
 pub struct Window<'a> {
     pub bytes: &'a [u8],
+    // A number, `OUTSIDE` too, as the faults have it.
     pub function: u8,
 }
 

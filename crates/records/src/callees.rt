@@ -5,7 +5,7 @@ use rows::row::Row;
 pub mod calls;
 
 /// What a callee takes and gives, and the depth of a function of the program.
-// Holds rows, which have no equality.
+// Holds rows: a derived equality would compare what lies past their ends.
 #[derive(Clone, Copy)]
 pub struct Callee {
     pub params: Row<Ty, 8>,

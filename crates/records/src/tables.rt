@@ -8,7 +8,7 @@ pub mod making;
 pub mod records;
 
 /// The counts of a program that reads, and the place of each of its records.
-// Holds rows, which have no equality.
+// Holds rows: a derived equality would compare what lies past their ends.
 #[derive(Clone, Copy)]
 pub struct Table<'a> {
     pub program: &'a [u8],
@@ -17,7 +17,7 @@ pub struct Table<'a> {
 }
 
 /// What a function's record says before its body, and where its body stands.
-// Holds rows, which have no equality.
+// Holds rows: a derived equality would compare what lies past their ends.
 #[derive(Clone, Copy)]
 pub struct Record {
     pub depth: u8,

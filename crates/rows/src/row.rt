@@ -14,7 +14,7 @@ pub struct Row<T: Copy, const N: usize> {
     ghost whole: { length items ≡ N },
 }
 
-// By hand, as `Clone` is not derived for a struct with ghost fields.
+// By hand: the derive is refused for a generic struct with ghost fields.
 impl<T: Copy, const N: usize> Clone for Row<T, N> {
     ghost is_clone = { λ x y. x ≡ y };
 

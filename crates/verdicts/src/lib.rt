@@ -10,6 +10,7 @@ use reader::faults::Fault;
 use std::alloc::{AllocError, Global};
 
 /// The numbers of a fault, with blanks between them.
+// Not by its `Display`, which has words between the numbers.
 fn numbers(heap: Global, fault: Fault) -> Result<String, AllocError>
     ensures { IfOk result (λ s. string_bytes s ≡ row fault) }
 {

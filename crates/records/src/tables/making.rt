@@ -7,14 +7,14 @@ ghost use Rattle.records.specs.Tables.{Tabled};
 use super::Table;
 use reader::faults::Fault;
 use reader::programs;
-use reader::windows::Window;
+use reader::windows::{OUTSIDE, Window};
 use rows::row::Row;
 
 /// Where the length of the record at a place leads, or the end of the program.
 fn place_after(program: &[u8], place: usize) -> usize
     ensures { result ≡ after program.now (length program.now) place }
 {
-    match Window::record(program, 255, place) {
+    match Window::record(program, OUTSIDE, place) {
         Ok((window, _)) => window.bytes.len(),
         Err(_) => program.len(),
     }
