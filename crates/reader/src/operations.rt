@@ -77,7 +77,7 @@ impl From<(u8, u8)> for Operation {
 }
 
 /// A queue as it is named: the first two are shared, and the others are the program's own.
-#[derive(Clone, Copy)]
+#[derive(Debug, Clone, Copy, PartialEq, Eq)]
 struct QueueName(u8);
 
 impl fmt::Display for QueueName {
