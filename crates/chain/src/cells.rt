@@ -186,7 +186,7 @@ impl<'a> Lent for Cells<'a> {
     }
 
     fn used(&self) -> usize {
-        // Record by record, as the sum is defined.
+        // A loop over the records that adds up needs, the stated form of this sum.
         let mut sum = 0;
         for head in self.heads.iter() {
             if let Some(stored) = head.packet {

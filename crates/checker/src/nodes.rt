@@ -3,9 +3,9 @@ ghost use Rattle.std.specs.Prelude.{◌≡◌, ℕ, List, length, Ok};
 ghost use Rattle.reader.specs.declared.values.Operand.{Operand as Placed};
 ghost use Rattle.reader.specs.Fields.{read_in};
 ghost use Rattle.rows.specs.Rows.{items};
-ghost use Rattle.reader.specs.Syntax.{Body, Program};
+ghost use Rattle.reader.specs.Syntax.{Body};
 ghost use Rattle.reader.specs.Nodes.{body_at};
-ghost use Rattle.records.specs.Tables.{maybe, Stands};
+ghost use Rattle.records.specs.Tables.{maybe, ForProgram};
 ghost use Rattle.typing.specs.Marks.{depth_holds};
 ghost use Rattle.checker.specs.Walks.{context, changed, Holds, leaving, binding, entering};
 
@@ -64,7 +64,7 @@ impl Walk<'_> {
 
     /// Puts the questions about a call.
     pub(crate) fn enter(&self, marks: &mut Marks, ifs: u8, call: Call) -> Result<(), Fault>
-        ensures { (P : Program) (vs : List Placed) (t : Body × ℕ) → Stands self.now.table P → Holds self.now.window call.arguments vs → read_in self.now.window body_at ifs call.next ≡ Ok t → changed result marks.new ≡ entering P self.now.window.function call.place self.now.record.depth (context marks.old) call.operation vs call.results t.0 }
+        ensures { ForProgram self.now.table (λ P. (vs : List Placed) (t : Body × ℕ) → Holds self.now.window call.arguments vs → read_in self.now.window body_at ifs call.next ≡ Ok t → changed result marks.new ≡ entering P self.now.window.function call.place self.now.record.depth (context marks.old) call.operation vs call.results t.0) }
     {
         let Some(callee) = self.table.callee(call.operation) else {
             return Err(self.fault(Question::Callee, call.place));

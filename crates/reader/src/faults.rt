@@ -10,7 +10,6 @@ use std::fmt;
 
 /// The first question answered no, where: the function (255 outside records), the byte place.
 // The function is the number that a denial is reported with, so no `Option` stands for 255.
-// 255 and not an Option: a verdict's line is stated with this number.
 #[derive(Debug, Clone, Copy, PartialEq, Eq)]
 pub struct Fault {
     pub question: Question,

@@ -118,7 +118,7 @@ impl Lent for Slots<'_> {
     }
 
     fn used(&self) -> usize {
-        // Record by record, as the sum is defined.
+        // A loop over the records that adds up needs, the stated form of this sum.
         let mut sum = 0;
         for slot in self.slots.iter() {
             if slot.label.is_some() {

@@ -9,6 +9,7 @@ use crate::name::Name;
 /// A store of packets. Its meaning is a map from names to packets, a largest size, a capacity in units and a need for each size.
 pub trait Store {
     /// The number of the store's kind, which each denial carries.
+    // A number and no enum, as in a denial.
     const KIND: u8;
 
     ghost KIND: { ℕ };

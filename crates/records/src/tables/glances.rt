@@ -18,6 +18,7 @@ fn types(window: &Window, count: u8, place: usize) -> Result<(Row<Ty, 8>, usize)
 {
     let mut types = Row::new(Ty::Int);
     let mut next = place;
+    // A number of steps: each type is found behind the one before.
     for _ in 0..count {
         let (ty, after) = window.ty(next)?;
         types.push(ty).unwrap();

@@ -71,7 +71,7 @@ returns-in_err-enter-in-Call-clause-answer t c P F u s h =
     let x = c.in_err-enter-in-Call.field-0.0 in
     let e : c.from_residual-in_err-enter-in-Call.result ≡ Err x = search rules in
     e ∙ path_call w P F s (context c.args.marks.now) u c.args.place a.operation r.operands a.results r.rest (Err x) r.is
-    (c.in_err-enter-in-Call.ensures P r.operands r.rest s.stands (record { stop = r.stop; reads = r.reads; long = r.long }) r.reads-rest)
+    (c.in_err-enter-in-Call.ensures P s.stands r.operands r.rest (record { stop = r.stop; reads = r.reads; long = r.long }) r.reads-rest)
 
 pub returns-in_ok-enter-in-Call-clause-answer : goal.returns-in_ok-enter-in-Call-clause-answer
 returns-in_ok-enter-in-Call-clause-answer t c P F u s h =
@@ -80,4 +80,4 @@ returns-in_ok-enter-in-Call-clause-answer t c P F u s h =
     let r = taken w c.args.ifs c.args.place c.in_ok-node.next u c.in_ok-node.node (node.Call a.operation a.arguments a.results) h c.in_ok-node.ensures.reads a.is in
     c.body-in-Call.ensures.answer P F r.rest s r.reads-rest
     ∙ path_call w P F s (context c.args.marks.now) u c.args.place a.operation r.operands a.results r.rest (Ok (context c.enter.new.marks)) r.is
-    (c.in_ok-enter-in-Call.ensures P r.operands r.rest s.stands (record { stop = r.stop; reads = r.reads; long = r.long }) r.reads-rest)
+    (c.in_ok-enter-in-Call.ensures P s.stands r.operands r.rest (record { stop = r.stop; reads = r.reads; long = r.long }) r.reads-rest)
