@@ -8,13 +8,15 @@ use Rattle.reader.specs.declared.windows.Window.{Window}
 use Rattle.reader.specs.declared.nodes.Node.{Node}
 use Rattle.reader.specs.declared.nodes.Node.TheVariants as node
 use Rattle.reader.specs.Syntax.{Body}
-use Rattle.reader.specs.Fields.{read_in, value_at, values_at}
+use Rattle.reader.specs.Fields.{Read, read_in, then, value_at, values_at}
 use Rattle.reader.specs.Nodes.{body_at, node_at, sight}
 use Rattle.reader.proofs.Parts.{parts}
-use Rattle.reader.proofs.Results.{ok_same}
 use Rattle.typing.specs.Marks.{is_variable, consecutive, is_tail}
-use Rattle.checker.specs.Walks.{Holds}
-use Rattle.checker.proofs.Reading.{never, first_of}
+use Rattle.checker.specs.Walks.{Holds, in_row}
+
+and_false : (b : Bool) → b && false ≡ false
+and_false true = refl
+and_false false = refl
 
 -- values in another number are none of j results
 pub consecutive-long : (first j : ℕ) (vs : List Operand) → ¬ (length vs ≡ j) → consecutive first j vs ≡ false
@@ -23,10 +25,6 @@ consecutive-long first zero (v ∷ vs) h = refl
 consecutive-long first (suc j) [] h = refl
 consecutive-long first (suc j) (v ∷ vs) h =
     ap (λ b. is_variable first v.value && b) (consecutive-long (suc first) j vs (λ e. h (ap suc e))) ∙ and_false (is_variable first v.value)
-  where
-    and_false : (b : Bool) → b && false ≡ false
-    and_false true = refl
-    and_false false = refl
 
 module _ (w : Window) where
   -- whether a body returns j results from first on, by its first node as the code sees it
@@ -49,39 +47,23 @@ module _ (w : Window) where
   tail_other first j e (node.Branch v field n) s other = sym s
   tail_other first j e (node.Call o l n) s other = sym s
 
-  -- n values are left at p, to be the variables from first on; with what was kept so far they decide the whole
-  pub record Trailing (kept : Bool) (first n p : ℕ) (whole : Bool) : Type 0 where
-    pub rest : List Operand
-    pub stop : ℕ
-    pub reads : read_in w values_at n p ≡ Ok (rest, stop)
-    pub leads : kept && consecutive first n rest ≡ whole
+  -- one value of a row; with what was kept so far the others decide the whole
+  pub row_next : (first n m p : ℕ) (x : Value × ℕ) (kept whole : Bool) → m ≡ suc n → Ok x ≡ read_in w value_at p → kept ≡ is_variable first x.0
+      → in_row first m (read_in w values_at m p) ≡ whole → kept && in_row (first + 1) n (read_in w values_at n x.1) ≡ whole
+  row_next first n m p x kept whole long h is all =
+      ap (λ k. k && in_row (first + 1) n (read_in w values_at n x.1)) is
+      ∙ sym (more (read_in w values_at n x.1))
+      ∙ ap (λ r. in_row first (suc n) (then r (λ v. then (read_in w values_at n v.1) λ vs. Ok (record { place = p; value = v.0 } ∷ vs.0, vs.1)))) h
+      ∙ ap (λ k. in_row first k (read_in w values_at k p)) (sym long)
+      ∙ all
+    where
+      more : (r : Read (List Operand)) → in_row first (suc n) (then r (λ vs. Ok (record { place = p; value = x.0 } ∷ vs.0, vs.1))) ≡ is_variable first x.0 && in_row (first + 1) n r
+      more (Ok y) = let s : suc first ≡ first + 1 = omega arith in ap (λ k. is_variable first x.0 && consecutive k n y.0) s
+      more (Err e) = sym (and_false (is_variable first x.0))
 
-  pub trailing_all : (first n : ℕ) (l : Values) (vs : List Operand) → n ≡ l.count → Holds w l vs → Trailing true first n l.place (consecutive first l.count vs)
-  trailing_all first n l vs e h =
-      record { rest = vs; stop = h.stop; reads = ap (λ m. read_in w values_at m l.place) e ∙ h.reads; leads = ap (λ m. consecutive first m vs) e }
-
-  module _ (first m p : ℕ) (whole : Bool) (t : Trailing true first m p whole) where
-    pub trailing_next : (n : ℕ) (value : Value) (next : ℕ) (kept : Bool) → m ≡ suc n → Ok (value, next) ≡ read_in w value_at p → kept ≡ is_variable first value
-        → Trailing kept (first + 1) n next whole
-    trailing_next n value next kept long v is =
-        let o = first_of w m n p t.stop t.rest long t.reads in
-        let same = ok_same (o.value, o.next) (value, next) (sym o.here ∙ sym v) in
-        let s : first + 1 ≡ suc first = omega arith in
-        record {
-          rest = o.more;
-          stop = t.stop;
-          reads = ap (λ (y : Value × ℕ). read_in w values_at n y.1) (sym same) ∙ o.there;
-          leads =
-              (λ i. is i && consecutive (s i) n o.more)
-              ∙ ap (λ (y : Value × ℕ). is_variable first y.0 && consecutive (suc first) n o.more) (sym same)
-              ∙ (λ i. consecutive first (sym long i) (sym o.is i))
-              ∙ t.leads;
-        }
-
-    pub trailing_reads : (n : ℕ) (x : Fault) → m ≡ suc n → Err x ≡ read_in w value_at p → ⊥
-    trailing_reads n x long r = let o = first_of w m n p t.stop t.rest long t.reads in never x (o.value, o.next) (r ∙ o.here)
-
-    pub trailing_none : m ≡ zero → true ≡ whole
-    trailing_none none =
-        let r = ok_same ([], p) (t.rest, t.stop) (ap (λ n. read_in w values_at n p) (sym none) ∙ t.reads) in
-        (λ i. consecutive first (sym none i) (r i).0) ∙ t.leads
+  -- what cannot be read is no row
+  pub row_unread : (first n m p : ℕ) (e : Fault) (whole : Bool) → m ≡ suc n → Err e ≡ read_in w value_at p → in_row first m (read_in w values_at m p) ≡ whole → false ≡ whole
+  row_unread first n m p e whole long h all =
+      ap (λ r. in_row first (suc n) (then r (λ v. then (read_in w values_at n v.1) λ vs. Ok (record { place = p; value = v.0 } ∷ vs.0, vs.1)))) h
+      ∙ ap (λ k. in_row first k (read_in w values_at k p)) (sym long)
+      ∙ all

@@ -1,5 +1,5 @@
 -- What the code's walks over a body keep and answer.
-use Rattle.std.specs.Prelude.{◌≡◌, ℕ, ◌+◌, true, false, ◌&&◌, List, [], ◌++◌, map, length, take, Some, None, Ok, Err, Option, Result, ◌==◌, nat_le}
+use Rattle.std.specs.Prelude.{◌≡◌, ℕ, ◌+◌, Bool, true, false, ◌&&◌, List, [], ◌++◌, map, length, take, Some, None, Ok, Err, Option, Result, ◌==◌, nat_le}
 use Rattle.std.proofs.Math.Option.{Option as Maybe, some}
 use Rattle.std.proofs.Math.ListN.{get_elem?}
 use Rattle.reader.specs.declared.faults.Fault.{Fault}
@@ -10,13 +10,13 @@ use Rattle.reader.specs.declared.values.Value.{Value}
 use Rattle.reader.specs.declared.values.Operand.{Operand}
 use Rattle.reader.specs.declared.values.Values.{Values}
 use Rattle.reader.specs.declared.windows.Window.{Window}
-use Rattle.reader.specs.Fields.{read_in, then, values_at}
+use Rattle.reader.specs.Fields.{Read, read_in, then, values_at}
 use Rattle.reader.specs.Syntax.{Body, Function, Program}
 use Rattle.records.specs.Tables.{Stands, Says}
 use Rattle.rows.specs.Rows.{items}
 use Rattle.typing.specs.Typing.{Entry, has, Ctx}
 use Rattle.typing.specs.Signatures.{signature, callee_depth}
-use Rattle.typing.specs.Marks.{ask, known, bound, entry, gives, all_spent, is_tail, depth_holds}
+use Rattle.typing.specs.Marks.{ask, known, bound, entry, gives, all_spent, consecutive, is_tail, depth_holds}
 use Rattle.checker.specs.declared.walks.Walk.{Walk}
 use Rattle.checker.specs.declared.marks.Marks.{Marks}
 
@@ -37,6 +37,11 @@ pub record Holds (w : Window) (l : Values) (vs : List Operand) : Type 0 where
   pub stop : ℕ
   pub reads : read_in w values_at l.count l.place ≡ Ok (vs, stop)
   pub long : length vs ≡ l.count
+
+-- is what was read the j variables from n on, in order? What cannot be read is not
+abbrev pub in_row : (n j : ℕ) → Read (List Operand) → Bool
+in_row n j (Ok x) = consecutive n j x.0
+in_row n j (Err e) = false
 
 -- what a change of the marks comes to: the marks after it, or a fault
 abbrev pub changed : {X : Type 0} → Result X Fault → Marks → Result Ctx Fault

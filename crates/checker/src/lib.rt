@@ -8,4 +8,5 @@ pub mod layers;
 mod lists;
 mod marks;
 mod nodes;
+pub mod variables;
 mod walks;

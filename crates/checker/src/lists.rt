@@ -5,10 +5,11 @@ ghost use Rattle.reader.specs.Fields.{read_in};
 ghost use Rattle.reader.specs.Syntax.{Body};
 ghost use Rattle.reader.specs.Nodes.{body_at};
 ghost use Rattle.rows.specs.Rows.{items};
-ghost use Rattle.typing.specs.Marks.{gives, note, is_variable, consecutive, is_tail};
+ghost use Rattle.typing.specs.Marks.{gives, note, is_tail};
 ghost use Rattle.checker.specs.Walks.{context, changed, Holds};
 
 use crate::marks::Marks;
+use crate::variables::consecutive;
 use crate::walks::Walk;
 use reader::faults::Fault;
 use reader::nodes::Node;
@@ -26,13 +27,6 @@ fn note(named: &mut Row<u8, 8>, value: Value)
     }
 }
 
-/// Whether a value is the variable of a number.
-fn is_variable(value: Value, number: usize) -> bool
-    ensures { result ≡ is_variable number value }
-{
-    matches!(value, Value::Variable(x) if usize::from(x) == number)
-}
-
 impl Walk<'_> {
     /// Puts the questions about a list of values, from the left, where as many types are wanted.
     pub(crate) fn give_all(
@@ -45,7 +39,7 @@ impl Walk<'_> {
         ensures { (vs : List Placed) → Holds self.now.window values vs → changed result marks.new ≡ gives self.now.window.function (context marks.old) [] vs (items wanted.now) }
     {
         let mut named = Row::new(0);
-        // The place goes along by hand, here and below: an iterator over the values would owe a relation of what it yields.
+        // The place goes along by hand, as in `consecutive`: an iterator over the values would owe a relation of what it yields.
         let mut place = values.place;
         for ty in wanted.as_slice() {
             let (value, next) = self.window.value(place)?;
@@ -54,24 +48,6 @@ impl Walk<'_> {
             place = next;
         }
         Ok(())
-    }
-
-    /// Whether the values are the variables from `first` on, in order.
-    fn consecutive(&self, first: usize, values: Values) -> bool
-        requires { first ≤ 16 }
-        ensures { (vs : List Placed) → Holds self.now.window values vs → result ≡ consecutive first values.count vs }
-    {
-        let mut place = values.place;
-        for number in first..first + usize::from(values.count) {
-            let Ok((value, next)) = self.window.value(place) else {
-                return false;
-            };
-            if !is_variable(value, number) {
-                return false;
-            }
-            place = next;
-        }
-        true
     }
 
     /// Whether a call of `results` results, bound from `first` on, is a tail call: the body at the place behind it returns just them.
@@ -85,6 +61,6 @@ impl Walk<'_> {
         let Node::Return { values } = node else {
             return false;
         };
-        values.count == results && self.consecutive(first, values)
+        values.count == results && consecutive(&self.window, first as u8, values)
     }
 }

@@ -89,7 +89,8 @@ module _ (b : List ℕ) (e f : ℕ) where
       ∙ ap (λ x. then x (λ u. elim (eqb (u.1 - z) n) [ true ↦ then (s (ifs + 1) u.1) (λ w. Ok (branch p v u.0 w.0, w.1)) | false ↦ denied q.BranchLength f field ])) (same (ifs + 1) z (omega arith))
   followed_same r s ifs p z (calls o vs n) on same = ap (λ x. then x (λ w. Ok (call p o vs n w.0, w.1))) (same ifs z (omega arith))
 
-  node-outside : (ifs p : ℕ) → e ≤ p → node_at b e f ifs p ≡ denied q.Inside f p
+  -- where nothing is left, no node is read
+  pub node-outside : (ifs p : ℕ) → e ≤ p → node_at b e f ifs p ≡ denied q.Inside f p
   node-outside ifs p h = let t : leb (p + 1) e ≡ false = lt-leb (p + 1) e (omega arith) in rw (t, field_at)
 
   -- the same body by any number of bytes that is not too small

@@ -31,7 +31,7 @@ module _ (b : List ℕ) (e f : ℕ) where
   Heading p (branches v field n, z) = Unit {0}
   Heading p (calls o vs n, z) = (y : ℕ) × (values_at b e f (length vs) (p + 4) ≡ Ok (vs, y))
 
-  heading : (ifs p : ℕ) (h : Head × ℕ) → node_at b e f ifs p ≡ Ok h → Heading p h
+  pub heading : (ifs p : ℕ) (h : Head × ℕ) → node_at b e f ifs p ≡ Ok h → Heading p h
   heading ifs p h k =
       let t = then_ok (byte_at b e f p) _ h k in
       let one = byte_after b e f p t.0 t.1 in

@@ -123,6 +123,7 @@ impl<'a> Window<'a> {
     }
 
     /// The place after `count` items, each read by `item`.
+    #[inline(always)]
     #[tactic(auto, using(crate::proofs::Skips::skipped_more))]
     pub(crate) fn skip<T: Drop, F: Fn(&Window<'a>, usize) -> Result<(T, usize), Fault>>(
         &self,
@@ -142,6 +143,7 @@ impl<'a> Window<'a> {
     }
 
     /// A count and that many values: where they stand.
+    #[inline(always)]
     pub(crate) fn list(&self, place: usize) -> Result<(Values, usize), Fault>
         ensures reads { result ≡ listed place (read_in self.now list_at place) }
         ensures onward { Onward place (length self.now.bytes.now) result }

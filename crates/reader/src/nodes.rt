@@ -33,6 +33,7 @@ const MOST_IFS: u8 = 16;
 
 impl Window<'_> {
     /// The node at a place under `ifs` ifs.
+    #[inline(always)]
     pub fn node(&self, ifs: u8, place: usize) -> Result<(Node, usize), Fault>
         ensures reads { result ≡ sight place (read_in self.now node_at ifs place) }
         ensures onward { Onward place (length self.now.bytes.now) result }

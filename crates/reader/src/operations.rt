@@ -52,6 +52,7 @@ pub enum Operation {
 impl From<(u8, u8)> for Operation {
     ghost from_gives = { λ numbers result. result ≡ operation numbers.0 numbers.1 };
 
+    #[inline(always)]
     fn from(numbers: (u8, u8)) -> Operation {
         match numbers {
             (0, 0) => Operation::Compute(Arithmetic::Add),

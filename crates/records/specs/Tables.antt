@@ -58,3 +58,7 @@ maybe None = none
 abbrev pub Called : Program → Operation → Option Callee → Type 0
 Called P o (Some c) = (signature P o ≡ some (items c.params ⇒ items c.results)) × (callee_depth P o ≡ maybe c.depth)
 Called P o None = signature P o ≡ none
+
+-- a program of no functions, with a number of own queues: all that it can call are the operations of the language
+abbrev pub no_functions : (queues : ℕ) → Program
+no_functions n = record { threads = 0; queues = n; functions = [] }

@@ -2,7 +2,7 @@
 ghost use Rattle.std.specs.Prelude.{◌≡◌, ◌+◌, ◌≤◌, length, None, nat_lt};
 ghost use Rattle.reader.specs.declared.operations.Operation.TheVariants.{Function};
 ghost use Rattle.rows.specs.Rows.{items};
-ghost use Rattle.records.specs.Tables.{ForProgram, Called};
+ghost use Rattle.records.specs.Tables.{ForProgram, Called, no_functions};
 
 use super::Callee;
 use crate::tables::Table;
@@ -28,8 +28,8 @@ fn row(types: &[Ty]) -> Row<Ty, 8>
     row
 }
 
-/// An operation of the language: it has no depth.
-fn built_in(params: &[Ty], results: &[Ty]) -> Callee
+/// What is no function takes and gives: it has no depth.
+fn flat(params: &[Ty], results: &[Ty]) -> Callee
     requires { (length params.now ≤ 8) × (length results.now ≤ 8) }
     ensures takes { items result.params ≡ params.now }
     ensures gives { items result.results ≡ results.now }
@@ -42,14 +42,37 @@ fn built_in(params: &[Ty], results: &[Ty]) -> Callee
     }
 }
 
-impl Table<'_> {
-    /// Whether a queue exists: `receive`, `transmit` and the program's own.
-    fn has_queue(&self, queue: u8) -> bool
-        ensures { result ≡ nat_lt queue (2 + self.now.header.queues) }
-    {
-        usize::from(queue) < 2 + usize::from(self.header.queues)
-    }
+/// Whether a queue exists: `receive`, `transmit` and the program's own.
+fn has_queue(queue: u8, queues: u8) -> bool
+    ensures { result ≡ nat_lt queue (2 + queues) }
+{
+    usize::from(queue) < 2 + usize::from(queues)
+}
 
+/// What an operation of the language takes and gives in a program with a number of own queues; a function is none of these.
+pub fn built_in(operation: Operation, queues: u8) -> Option<Callee>
+    ensures { Called (no_functions queues) operation result }
+{
+    match operation {
+        Operation::Compute(_) => Some(flat(&[Ty::Int, Ty::Int], &[Ty::Int])),
+        Operation::Compare(_) => Some(flat(&[Ty::Int, Ty::Int], &[Ty::Bool])),
+        Operation::Connect(_) => Some(flat(&[Ty::Bool, Ty::Bool], &[Ty::Bool])),
+        Operation::New => Some(flat(&[Ty::Int], &[Ty::Packet])),
+        Operation::Kill => Some(flat(&[Ty::Packet], &[])),
+        Operation::Read => Some(flat(&[Ty::Alias, Ty::Int], &[Ty::Int])),
+        Operation::Update => Some(flat(&[Ty::Alias, Ty::Int, Ty::Int], &[])),
+        Operation::Enq(queue) if has_queue(queue, queues) && queue != RECEIVE => {
+            Some(flat(&[Ty::Packet], &[]))
+        }
+        Operation::Deq(queue) if has_queue(queue, queues) && queue != TRANSMIT => {
+            Some(flat(&[], &[Ty::Packet]))
+        }
+        Operation::Enq(_) | Operation::Deq(_) | Operation::Function(_) | Operation::Unknown(_, _) =>
+            None,
+    }
+}
+
+impl Table<'_> {
     /// A function of the program.
     fn function(&self, function: u8) -> Option<Callee>
         ensures { ForProgram self.now (λ P. Called P (Function function) result) }
@@ -67,21 +90,8 @@ impl Table<'_> {
         ensures { ForProgram self.now (λ P. Called P operation result) }
     {
         match operation {
-            Operation::Compute(_) => Some(built_in(&[Ty::Int, Ty::Int], &[Ty::Int])),
-            Operation::Compare(_) => Some(built_in(&[Ty::Int, Ty::Int], &[Ty::Bool])),
-            Operation::Connect(_) => Some(built_in(&[Ty::Bool, Ty::Bool], &[Ty::Bool])),
-            Operation::New => Some(built_in(&[Ty::Int], &[Ty::Packet])),
-            Operation::Kill => Some(built_in(&[Ty::Packet], &[])),
-            Operation::Read => Some(built_in(&[Ty::Alias, Ty::Int], &[Ty::Int])),
-            Operation::Update => Some(built_in(&[Ty::Alias, Ty::Int, Ty::Int], &[])),
-            Operation::Enq(queue) if self.has_queue(queue) && queue != RECEIVE => {
-                Some(built_in(&[Ty::Packet], &[]))
-            }
-            Operation::Deq(queue) if self.has_queue(queue) && queue != TRANSMIT => {
-                Some(built_in(&[], &[Ty::Packet]))
-            }
             Operation::Function(function) => self.function(function),
-            Operation::Enq(_) | Operation::Deq(_) | Operation::Unknown(_, _) => None,
+            _ => built_in(operation, self.header.queues),
         }
     }
 }

@@ -1,0 +1,4 @@
+pub mod Wider
+pub mod Seeing
+pub mod Nodes
+pub mod Copying
