@@ -33,13 +33,13 @@ use Rattle.rules.proofs.Invariant.{Sound, not_made, running-ended}
 use Rattle.rules.proofs.Same.{arguments-same}
 
 -- what a variable of a type holds
-data Canon : Ty → Held → Type 0 where
+pub data Canon : Ty → Held → Type 0 where
   an_int : {k : ℕ} → Canon int (integer k)
   a_bool : {b : Bool} → Canon bool (truth b)
   an_owner : {n : Name} → Canon packet (owner n)
   an_alias : {n : Name} → Canon alias (held.alias n)
 
-data Canons : List Ty → List Held → Type 0 where
+pub data Canons : List Ty → List Held → Type 0 where
   none_left : Canons [] []
   and_more : {τ : Ty} {τs : List Ty} {x : Held} {xs : List Held} → Canon τ x → Canons τs xs → Canons (τ ∷ τs) (x ∷ xs)
 
@@ -59,7 +59,7 @@ give-canon (copy_alias h) = an_alias
 give-canon (lend h) = an_alias
 give-canon (spend h) = an_owner
 
-gives-canon : {vs us : List Held} {as' : List Operand} {τs : List Ty} {xs : List Held} → Gives vs as' τs xs us → Canons τs xs
+pub gives-canon : {vs us : List Held} {as' : List Operand} {τs : List Ty} {xs : List Held} → Gives vs as' τs xs us → Canons τs xs
 gives-canon no_more = none_left
 gives-canon (one_more h r) = and_more (give-canon h) (gives-canon r)
 

@@ -28,7 +28,7 @@ pub use Rattle.rules.specs.declared.outcomes.Outcome.{Outcome}
 pub use Rattle.rules.specs.declared.outcomes.Outcome.TheVariants.{Advanced, Waits, Ended, Stuck}
 
 -- Operations on integers of 32 bits and on truth values.
-unfoldable pub calculate : Arithmetic → ℕ → ℕ → ℕ
+abbrev pub calculate : Arithmetic → ℕ → ℕ → ℕ
 calculate Add a b = (a + b) % 2 ^ 32
 calculate Subtract a b = (a + 2 ^ 32 - b) % 2 ^ 32
 calculate Times a b = a * b % 2 ^ 32
@@ -36,11 +36,11 @@ calculate BitAnd a b = bit_and a b
 calculate BitOr a b = bit_or a b
 calculate BitXor a b = bit_xor a b
 
-unfoldable pub compare : Comparison → ℕ → ℕ → Bool
+abbrev pub compare : Comparison → ℕ → ℕ → Bool
 compare Equal a b = a == b
 compare Less a b = nat_lt a b
 
-unfoldable pub connect : Connective → Bool → Bool → Bool
+abbrev pub connect : Connective → Bool → Bool → Bool
 connect And a b = a && b
 connect Or a b = a || b
 

@@ -1,0 +1,5 @@
+use Rattle.std.proofs.Common.{refl}
+use Rattle.machine.proofs.machine.Machine.queue.Goals as goal
+
+pub returns-in-Some : goal.returns-in-Some
+returns-in-Some g c = rw c.in-Some.is (c.if-has_queue.ensures.0 refl, c.queue.ensures (g.S.Store.meaning c.args.self.now.store))
