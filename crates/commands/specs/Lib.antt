@@ -1,0 +1,5 @@
+pub mod Answers
+pub mod Calls
+pub mod Replies
+pub mod Requests
+pub mod States
