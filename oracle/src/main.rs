@@ -4,20 +4,31 @@
 mod aim;
 mod calls;
 mod cases;
+mod code;
 mod encode;
+mod fast;
 mod fault;
 mod hex;
 mod judge;
+mod lively;
+mod machine;
 mod make;
 mod read;
 mod rng;
+mod scribe;
+mod script;
 mod spoil;
+mod stores;
+mod tally;
 #[cfg(test)]
 mod derive;
+#[cfg(test)]
+mod run_tests;
 #[cfg(test)]
 mod tests;
 mod tree;
 
+use scribe::Scribe;
 use std::collections::BTreeMap;
 use std::hint::black_box;
 use std::io::{self, BufRead, BufReader, BufWriter, Write};
@@ -28,7 +39,14 @@ const USAGE: &str = "usage:
   oracle verdicts [--layer 1|2|3]                      programs in, verdicts out
   oracle generate --seed S --count N [--kind KIND]     KIND: mixed good mutated raw deep large
   oracle tally                                         verdicts in, counts out
-  oracle time FILE REPEAT                              time of the checker alone";
+  oracle time FILE REPEAT                              time of the checker alone
+  oracle script                                        a script in, the same with answers out
+  oracle store-calls KIND SEED CALLS                   a script of store calls; KIND: slab chain split nested
+  oracle machine-calls KIND SEED CALLS                 a script of machine calls
+  oracle store-tally SEED CALLS                        what happens in such scripts of all kinds, counted
+  oracle machine-tally SEED CALLS
+  oracle steps FILE STEPS [SLOTS]                      steps of each thread of a program in turn
+  oracle plain-steps FILE STEPS [SLOTS]                the same by the machine over a map";
 
 fn main() -> ExitCode {
     let args: Vec<String> = std::env::args().skip(1).collect();
@@ -38,6 +56,15 @@ fn main() -> ExitCode {
         Some((&"generate", rest)) => generate(rest),
         Some((&"tally", [])) => tally(),
         Some((&"time", [file, repeat])) => time(file, repeat),
+        Some((&"script", [])) => script(),
+        Some((&"steps", [file, steps])) => steps_of(file, steps, "64"),
+        Some((&"steps", [file, steps, slots])) => steps_of(file, steps, slots),
+        Some((&"plain-steps", [file, steps])) => plain_steps_of(file, steps, "64"),
+        Some((&"plain-steps", [file, steps, slots])) => plain_steps_of(file, steps, slots),
+        Some((&"store-calls", [kind, seed, calls])) => store_calls(kind, seed, calls),
+        Some((&"machine-calls", [kind, seed, calls])) => machine_calls(kind, seed, calls),
+        Some((&"store-tally", [seed, calls])) => script_tally(seed, calls, false),
+        Some((&"machine-tally", [seed, calls])) => script_tally(seed, calls, true),
         _ => Err(USAGE.to_string()),
     };
     match done {
@@ -153,5 +180,109 @@ fn time(file: &str, repeat: &str) -> Result<(), String> {
         seconds * 1e9 / runs,
         bytes as f64 * repeat as f64 / seconds
     );
+    Ok(())
+}
+
+fn script() -> Result<(), String> {
+    let mut output = BufWriter::with_capacity(1 << 16, io::stdout().lock());
+    let mut session = script::Session::new();
+    for line in BufReader::with_capacity(1 << 16, io::stdin().lock()).lines() {
+        let line = line.map_err(|e| e.to_string())?;
+        writeln!(output, "{}", session.line(&line)).map_err(|e| e.to_string())?;
+    }
+    output.flush().map_err(|e| e.to_string())
+}
+
+fn script_kind(name: &str) -> Result<scribe::Kind, String> {
+    let found = scribe::KINDS.iter().find(|k| k.0 == name);
+    found.map(|k| k.1).ok_or_else(|| format!("no kind: {name}"))
+}
+
+fn store_calls(kind: &str, seed: &str, calls: &str) -> Result<(), String> {
+    let kind = script_kind(kind)?;
+    let mut output = BufWriter::with_capacity(1 << 16, io::stdout().lock());
+    Scribe::new(number(seed)?, &mut output, true)
+        .store_calls(kind, number(calls)?)
+        .and_then(|()| output.flush())
+        .map_err(|e| e.to_string())
+}
+
+fn machine_calls(kind: &str, seed: &str, calls: &str) -> Result<(), String> {
+    let kind = script_kind(kind)?;
+    let mut output = BufWriter::with_capacity(1 << 16, io::stdout().lock());
+    Scribe::new(number(seed)?, &mut output, true)
+        .machine_calls(kind, number(calls)?)
+        .and_then(|()| output.flush())
+        .map_err(|e| e.to_string())
+}
+
+fn script_tally(seed: &str, calls: &str, machines: bool) -> Result<(), String> {
+    let mut sums: BTreeMap<String, u64> = BTreeMap::new();
+    for (_, kind) in scribe::KINDS {
+        let mut nowhere = io::sink();
+        let mut scribe = Scribe::new(number(seed)?, &mut nowhere, false);
+        let each = number(calls)? / scribe::KINDS.len() as u64;
+        let done = if machines {
+            scribe.machine_calls(kind, each)
+        } else {
+            scribe.store_calls(kind, each)
+        };
+        done.map_err(|e| e.to_string())?;
+        for (what, count) in scribe.tally().counts() {
+            *sums.entry(what.clone()).or_default() += count;
+        }
+    }
+    for (what, count) in sums {
+        println!("{count:>9}  {what}");
+    }
+    Ok(())
+}
+
+/// The bytes of a program's file, as `paclang` reads files.
+fn program_file(file: &str) -> Result<Vec<u8>, String> {
+    let text = std::fs::read(file).map_err(|e| format!("{file}: {e}"))?;
+    if file.ends_with(".bin") {
+        return Ok(text);
+    }
+    let mut bare = Vec::new();
+    for line in text.split(|&c| c == b'\n') {
+        bare.extend_from_slice(line.split(|&c| c == b'#').next().unwrap_or(b""));
+    }
+    hex::decode(&bare).map_err(|e| format!("{file}: {e}"))
+}
+
+fn steps_of(file: &str, steps: &str, slots: &str) -> Result<(), String> {
+    let bytes = program_file(file)?;
+    let (steps, slots) = (number(steps)?, number(slots)? as usize);
+    let mut machine = fast::Fast::load(&bytes, u32::MAX, slots).map_err(|fault| format!("{file}: {fault}"))?;
+    let sums = fast::run(&mut machine, steps);
+    println!("advances {} waits {} ended {}", sums.advances, sums.waits, sums.ended);
+    if sums.stuck > 0 {
+        return Err(format!("stuck {}", sums.stuck));
+    }
+    Ok(())
+}
+
+/// The same over a store that is a map.
+fn plain_steps_of(file: &str, steps: &str, slots: &str) -> Result<(), String> {
+    let bytes = program_file(file)?;
+    let (steps, slots) = (number(steps)?, number(slots)?);
+    let slab = stores::Shape::Slab { memory: 256 * slots, records: slots };
+    let mut machine = machine::Machine::new(stores::Store::new(slab));
+    machine.load(&bytes, u32::MAX).map_err(|refusal| format!("{file}: {refusal:?}"))?;
+    let threads = machine.running.as_ref().map_or(1, |running| running.threads.len() as u64);
+    let mut sums = fast::Steps::default();
+    for i in 0..steps {
+        match machine.step(1 + i % threads) {
+            Ok(machine::Outcome::Advanced) => sums.advances += 1,
+            Ok(machine::Outcome::Waits(_)) => sums.waits += 1,
+            Ok(machine::Outcome::Ended) => sums.ended += 1,
+            Ok(machine::Outcome::Stuck) | Err(_) => sums.stuck += 1,
+        }
+    }
+    println!("advances {} waits {} ended {}", sums.advances, sums.waits, sums.ended);
+    if sums.stuck > 0 {
+        return Err(format!("stuck {}", sums.stuck));
+    }
     Ok(())
 }
