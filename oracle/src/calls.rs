@@ -1,6 +1,7 @@
 //! The built-in calls and their signatures, as the table of docs/FORMAT.md lists them.
 
 use crate::tree::Type::{self, Alias, Bool, Int, Packet};
+use crate::tree::Word;
 
 pub const ENQ: u8 = 4;
 pub const DEQ: u8 = 5;
@@ -29,4 +30,35 @@ pub fn builtin(kind: u8, index: u8, queues: u8) -> Option<Signature<'static>> {
         (DEQ, _) if is_queue && index != TRANSMIT => Some((&[], &[Packet])),
         _ => None,
     }
+}
+
+/// The signature of a call that exists; `function` has those of the program's functions.
+pub fn signature_of<'a>(
+    kind: u8,
+    index: u8,
+    queues: u8,
+    function: impl FnOnce(usize) -> Signature<'a>,
+) -> Signature<'a> {
+    if kind == FUNCTION {
+        function(usize::from(index))
+    } else {
+        builtin(kind, index, queues).expect("only calls that exist are made")
+    }
+}
+
+/// Values for these types from a generator: owners in turn, aliases by `handle`, the others by
+/// `scalar`; None if an owner or an alias is missing.
+pub fn filled<G>(
+    generator: &mut G,
+    wanted: &[Type],
+    mut owners: impl Iterator<Item = u8>,
+    handle: impl Fn(&mut G) -> Option<u8>,
+    scalar: impl Fn(&mut G, Type) -> Word,
+) -> Option<Vec<Word>> {
+    let word = |&ty: &Type| match ty {
+        Type::Packet => owners.next().map(Word::Var),
+        Type::Alias => handle(generator).map(Word::Var),
+        _ => Some(scalar(generator, ty)),
+    };
+    wanted.iter().map(word).collect()
 }

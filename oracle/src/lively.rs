@@ -4,7 +4,7 @@
 //!
 //! `make.rs` shows the check all shapes of programs; most of those end or wait soon.
 
-use crate::calls::{builtin, DEQ, ENQ, FUNCTION, RECEIVE, TRANSMIT};
+use crate::calls::{filled, signature_of, DEQ, ENQ, FUNCTION, RECEIVE, TRANSMIT};
 use crate::encode::encode;
 use crate::make::value;
 use crate::rng::Rng;
@@ -121,25 +121,15 @@ impl<'a> Maker<'a> {
         }
         let mut handles = scope.all(|ty| ty == Type::Alias);
         handles.extend_from_slice(&owners[given..]);
-        let mut list = Vec::new();
-        for &ty in wanted {
-            list.push(match ty {
-                Type::Packet => Word::Var(owners.remove(0)),
-                Type::Alias if handles.is_empty() => return None,
-                Type::Alias => Word::Var(self.rng.pick(&handles)),
-                _ => self.scalar(scope, ty),
-            });
-        }
-        Some(list)
+        let handle = |maker: &mut Self| (!handles.is_empty()).then(|| maker.rng.pick(&handles));
+        filled(self, wanted, owners.into_iter(), handle, |maker, ty| maker.scalar(scope, ty))
     }
 
     fn signature(&self, kind: u8, index: u8) -> (&'a [Type], &'a [Type]) {
-        if kind == FUNCTION {
-            let head = &self.heads[usize::from(index)];
+        signature_of(kind, index, self.queues, |function| {
+            let head = &self.heads[function];
             (&head.params, &head.results)
-        } else {
-            builtin(kind, index, self.queues).expect("only calls that exist are made")
-        }
+        })
     }
 
     fn put(&mut self, scope: &mut Scope, calls: &mut Vec<Call>, kind: u8, index: u8, words: Vec<Word>) {

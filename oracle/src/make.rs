@@ -5,7 +5,7 @@
 //! that each node can be chosen to keep all rules. The same knowledge serves to plant
 //! a fault: the maker knows what would be right here and does something else.
 
-use crate::calls::{builtin, DEQ, ENQ, FUNCTION};
+use crate::calls::{filled, signature_of, DEQ, ENQ, FUNCTION};
 use crate::rng::Rng;
 use crate::tree::{Body, Call, End, Function, Program, Type, Value, Word};
 
@@ -232,27 +232,17 @@ impl<'a> Maker<'a> {
             aliases.extend_from_slice(&owners[given..]);
             owners.truncate(given);
         }
-        let mut list = Vec::with_capacity(wanted.len());
-        for &ty in wanted {
-            list.push(match ty {
-                Type::Packet => Word::Var(owners.pop()?),
-                Type::Alias if aliases.is_empty() => return None,
-                Type::Alias => Word::Var(self.rng.pick(&aliases)),
-                _ => self.scalar(scope, ty),
-            });
-        }
-        Some(list)
+        let handle = |maker: &mut Self| (!aliases.is_empty()).then(|| maker.rng.pick(&aliases));
+        filled(self, wanted, owners.into_iter().rev(), handle, |maker, ty| maker.scalar(scope, ty))
     }
 
     // ---- calls ----
 
     fn signature(&self, kind: u8, index: u8) -> (&'a [Type], &'a [Type]) {
-        if kind == FUNCTION {
-            let head = &self.heads[usize::from(index)];
+        signature_of(kind, index, self.queues, |function| {
+            let head = &self.heads[function];
             (&head.params, &head.results)
-        } else {
-            builtin(kind, index, self.queues).expect("only calls that exist are chosen")
-        }
+        })
     }
 
     fn draft(&mut self, scope: &Scope, kind: u8, index: u8) -> Option<Draft<'a>> {
