@@ -1,4 +1,5 @@
 pub mod Wider
 pub mod Seeing
 pub mod Nodes
+pub mod Arguments
 pub mod Copying

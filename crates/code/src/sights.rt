@@ -1,13 +1,15 @@
-//! What a place shows, with the places of what follows it.
+//! What a place shows.
+ghost use Rattle.std.specs.Prelude.{◌≡◌};
 ghost use Rattle.code.specs.Copies.{bytes_of};
-ghost use Rattle.code.specs.Sights.{Showing};
+ghost use Rattle.code.specs.Sights.{Showing, sight_at};
 
 use crate::copies::Code;
-use reader::nodes::Node;
+use reader::faults::Fault;
 use reader::operations::Operation;
+use reader::questions::Question;
 use reader::values::{Operand, Values};
 
-/// The node at a place, and where what follows it stands.
+/// What stands at a place, up to the first list of values in it; and where the branches of an if stand.
 #[derive(Debug, Clone, Copy, PartialEq, Eq)]
 pub enum Sight {
     Return {
@@ -21,39 +23,53 @@ pub enum Sight {
     Call {
         operation: Operation,
         arguments: Values,
-        results: u8,
-        next: usize,
     },
     /// Nothing can be read there.
     Nothing,
 }
 
 impl Code {
+    /// What is read at a place before any list. A list is walked once, where its values are given.
+    #[inline(always)]
+    fn glance(&self, place: usize) -> Result<Sight, Fault>
+        ensures { result ≡ sight_at (bytes_of self.now) place }
+    {
+        let window = self.window();
+        let (tag, next) = window.byte(place)?;
+        match tag {
+            0x01 => {
+                let (count, place) = window.count(next)?;
+                Ok(Sight::Return {
+                    values: Values { count, place },
+                })
+            }
+            0x02 => {
+                let (value, field) = window.value(next)?;
+                let (length, first) = window.half(field)?;
+                Ok(Sight::Branch {
+                    value: Operand { place: next, value },
+                    first,
+                    second: first + usize::from(length),
+                })
+            }
+            0x03 => {
+                let (kind, next) = window.byte(next)?;
+                let (index, next) = window.byte(next)?;
+                let (count, place) = window.count(next)?;
+                Ok(Sight::Call {
+                    operation: Operation::from((kind, index)),
+                    arguments: Values { count, place },
+                })
+            }
+            _ => Err(window.fault(Question::KnownNode, place)),
+        }
+    }
+
     /// What a place shows.
     #[inline(always)]
     pub fn sight(&self, place: usize) -> Sight
         ensures { Showing (bytes_of self.now) place result }
     {
-        let Some((node, next)) = self.node(place) else {
-            return Sight::Nothing;
-        };
-        match node {
-            Node::Return { values } => Sight::Return { values },
-            Node::Branch { value, length, .. } => Sight::Branch {
-                value,
-                first: next,
-                second: next + usize::from(length),
-            },
-            Node::Call {
-                operation,
-                arguments,
-                results,
-            } => Sight::Call {
-                operation,
-                arguments,
-                results,
-                next,
-            },
-        }
+        self.glance(place).unwrap_or(Sight::Nothing)
     }
 }

@@ -1,2 +1,2 @@
-pub mod Threads
 pub mod Giving
+pub mod Threads

@@ -1,10 +1,13 @@
 -- What a thread in the machine's memory stands for, in a program of the bytes b.
-use Rattle.std.specs.Prelude.{◌≡◌, ℕ, ◌<◌, List, [], ◌∷◌, map, reverse, length, Some, None, Option}
+use Rattle.std.specs.Prelude.{◌≡◌, ℕ, ◌+◌, ◌<◌, ◌≤◌, List, [], ◌∷◌, ◌++◌, map, reverse, length, Some, None, Option}
 use Rattle.rows.specs.declared.row.Row.{Row}
 use Rattle.rows.specs.Rows.{items}
 use Rattle.rules.specs.State as state
 use Rattle.rules.specs.State.{frame, ended, running, frames}
+use Rattle.reader.specs.Syntax.{Body}
 use Rattle.code.specs.Sights.{sees}
+use Rattle.rules.specs.declared.held.Held.{Held}
+use Rattle.frames.specs.Giving.{emptied, bound}
 use Rattle.frames.specs.declared.frame.Frame.{Frame}
 use Rattle.frames.specs.declared.thread.Thread.{Thread}
 use Rattle.frames.specs.declared.thread.Thread.TheVariants as t
@@ -43,6 +46,20 @@ IsBelow b θ (Some f) = (g : state.Frame) × (fs : List state.Frame) × (thread_
 abbrev pub topped : state.Frame → state.Thread → state.Thread
 topped f ended = ended
 topped f (running g fs) = running f fs
+
+-- a frame that goes on, with what is bound, and with a variable that may have been emptied
+abbrev pub advanced : (next : Body) → (spent : Option ℕ) → (x : Option Held) → state.Frame → state.Frame
+advanced next spent x (frame f node vs) = frame f next (emptied spent (vs ++ bound x))
+
+-- the same of the frame on top of a thread
+abbrev pub gone_on : (next : Body) → (spent : Option ℕ) → (x : Option Held) → state.Thread → state.Thread
+gone_on next spent x ended = ended
+gone_on next spent x (running f fs) = running (advanced next spent x f) fs
+
+-- what is bound has room in the frame on top, if there is one
+abbrev pub Bindable : Option Held → state.Thread → Type 0
+Bindable x ended = Unit {0}
+Bindable x (running (frame f node vs) fs) = length vs + length (bound x) ≤ 16
 
 -- with a frame more on top, its caller below it in the place of the one that was on top
 abbrev pub entered : (caller callee : state.Frame) → state.Thread → state.Thread

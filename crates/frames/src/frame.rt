@@ -1,9 +1,9 @@
 //! The frame of a function that runs.
-ghost use Rattle.std.specs.Prelude.{◌≡◌, ℕ, ◌+◌, ◌≤◌, ◌↔◌, List, ◌++◌, length, IsOk, OnOk, OnErr};
+ghost use Rattle.std.specs.Prelude.{◌≡◌, ℕ, ◌+◌, ◌≤◌, ◌↔◌, List, length, IsOk, OnOk, OnErr};
 ghost use Rattle.rows.specs.Rows.{items};
-ghost use Rattle.rules.specs.State.{frame};
 ghost use Rattle.code.specs.Sights.{sees};
-ghost use Rattle.frames.specs.Threads.{frame_of};
+ghost use Rattle.frames.specs.Giving.{bound as bound_as};
+ghost use Rattle.frames.specs.Threads.{frame_of, advanced};
 
 use rows::row::{Full, Row};
 use rules::held::Held;
@@ -18,25 +18,38 @@ pub struct Frame {
 }
 
 impl Frame {
-    /// A function that begins at a place, its parameters bound to what is given.
-    pub fn entering(function: u8, place: usize, given: &Row<Held, 8>) -> Frame
-        ensures { (b : List ℕ) → frame_of b result ≡ frame function (sees b place) (items given.now) }
+    /// Becomes what another frame is. No more is copied than the variables that are bound.
+    #[inline(always)]
+    pub fn copy_from(&mut self, other: &Frame)
+        ensures function { self.new.function ≡ other.now.function }
+        ensures place { self.new.place ≡ other.now.place }
+        ensures variables { items self.new.variables ≡ items other.now.variables }
     {
-        let mut variables = Row::new(Held::Nothing);
-        variables.extend(given.as_slice()).unwrap();
-        Frame {
-            function,
-            place,
-            variables,
-        }
+        self.function = other.function;
+        self.place = other.place;
+        self.variables.clear();
+        self.variables.extend(other.variables.as_slice()).unwrap();
     }
 
-    /// Binds what is given as the next variables.
-    pub fn bind(&mut self, given: &Row<Held, 8>) -> Result<(), Full>
-        ensures room { IsOk result ↔ (length (items self.old.variables) + length (items given.now) ≤ 16) }
-        ensures ok { OnOk result ((b : List ℕ) → frame_of b self.new ≡ frame self.old.function (sees b self.old.place) (items self.old.variables ++ items given.now)) }
+    /// Goes on at another place, with one value more, and with a variable of that name emptied.
+    #[inline(always)]
+    pub(crate) fn advance(
+        &mut self,
+        place: usize,
+        spent: Option<u8>,
+        bound: Option<Held>,
+    ) -> Result<(), Full>
+        ensures room { IsOk result ↔ (length (items self.old.variables) + length (bound_as bound) ≤ 16) }
+        ensures ok { OnOk result ((b : List ℕ) → frame_of b self.new ≡ advanced (sees b place) spent bound (frame_of b self.old)) }
         ensures err { OnErr result (self.new ≡ self.old) }
     {
-        self.variables.extend(given.as_slice())
+        if let Some(held) = bound {
+            self.variables.push(held)?;
+        }
+        if let Some(variable) = spent {
+            self.variables.put(usize::from(variable), Held::Nothing);
+        }
+        self.place = place;
+        Ok(())
     }
 }

@@ -2,7 +2,7 @@
 ghost use Rattle.std.specs.Prelude.{◌≡◌, ℕ, ◌<◌, ◌↔◌, List, [], length, IsOk, OnOk, OnErr};
 ghost use Rattle.rules.specs.State.{frame, running, ended, frames};
 ghost use Rattle.code.specs.Sights.{sees};
-ghost use Rattle.frames.specs.Threads.{frame_of, thread_of, Stands, IsTop, IsBelow, topped, entered, left};
+ghost use Rattle.frames.specs.Threads.{frame_of, thread_of, Stands, IsTop, IsBelow, Bindable, topped, gone_on, entered, left};
 
 use crate::frame::Frame;
 use rows::row::{Full, Row};
@@ -74,11 +74,29 @@ impl Thread {
     }
 
     /// Another frame in the place of the one on top. A thread that has ended stays so in every change.
-    pub fn set_top(&mut self, frame: Frame)
-        ensures { (b : List ℕ) → thread_of b self.new ≡ topped (frame_of b frame) (thread_of b self.old) }
+    pub fn set_top(&mut self, frame: &Frame)
+        ensures { (b : List ℕ) → thread_of b self.new ≡ topped (frame_of b frame.now) (thread_of b self.old) }
     {
         if let Thread::Running { top, .. } = self {
-            *top = frame;
+            top.copy_from(frame);
+        }
+    }
+
+    /// The frame on top goes on at another place: one value more may be bound, and the variable of a number emptied.
+    #[inline(always)]
+    pub fn advance(
+        &mut self,
+        place: usize,
+        spent: Option<u8>,
+        bound: Option<Held>,
+    ) -> Result<(), Full>
+        ensures room { (b : List ℕ) → IsOk result ↔ Bindable bound (thread_of b self.old) }
+        ensures ok { OnOk result ((b : List ℕ) → thread_of b self.new ≡ gone_on (sees b place) spent bound (thread_of b self.old)) }
+        ensures err { OnErr result (self.new ≡ self.old) }
+    {
+        match self {
+            Thread::Ended => Ok(()),
+            Thread::Running { top, .. } => top.advance(place, spent, bound),
         }
     }
 
@@ -96,12 +114,12 @@ impl Thread {
     }
 
     /// The frame on top leaves, and the one below it becomes `caller`. Nothing changes where none lies below.
-    pub fn leave(&mut self, caller: Frame)
-        ensures { (b : List ℕ) → thread_of b self.new ≡ left (frame_of b caller) (thread_of b self.old) }
+    pub fn leave(&mut self, caller: &Frame)
+        ensures { (b : List ℕ) → thread_of b self.new ≡ left (frame_of b caller.now) (thread_of b self.old) }
     {
         if let Thread::Running { top, below } = self {
             if below.pop().is_some() {
-                *top = caller;
+                top.copy_from(caller);
             }
         }
     }

@@ -20,7 +20,7 @@ use Rattle.frames.specs.declared.thread.Thread.{Thread}
 use Rattle.frames.specs.declared.thread.Thread.TheVariants.{Ended, Running}
 use Rattle.machine.specs.declared.moves.Draft.{Draft}
 use Rattle.machine.specs.declared.moves.Change.{Change}
-use Rattle.machine.specs.declared.moves.Change.TheVariants.{Top, Enter, Leave, End}
+use Rattle.machine.specs.declared.moves.Change.TheVariants.{Go, Bind, Spend, Top, Enter, Leave, End}
 use Rattle.machine.specs.declared.moves.Outside.{Outside}
 use Rattle.machine.specs.declared.moves.Outside.TheVariants.{Make, Discard, Write, Take, Put}
 
@@ -52,6 +52,9 @@ leave_as_long g h (x ∷ xs) (y ∷ ys) e roomy = tt
 -- there is room whatever the bytes of the program are
 pub roomy_any : (c : Change) (r : Thread) (b b' : List ℕ) → Roomy c (thread_of b r) → Roomy c (thread_of b' r)
 roomy_any c Ended b b' roomy = roomy
+roomy_any (Go place) (Running top below) b b' roomy = roomy
+roomy_any (Bind place x) (Running top below) b b' roomy = roomy
+roomy_any (Spend place v) (Running top below) b b' roomy = roomy
 roomy_any Top (Running top below) b b' roomy = tt
 roomy_any Enter (Running top below) b b' roomy =
     let h = length_below b below in

@@ -1,4 +1,6 @@
+pub mod Offers
 pub mod Decides
+pub mod Serving
 pub mod Changes
 pub mod Operations
 pub mod Machines

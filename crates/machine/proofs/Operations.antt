@@ -1,15 +1,11 @@
 -- What operations do outside a thread, from what the store and the queues answer.
-use Rattle.std.proofs.Common.{◌≡◌, ◌≢◌, ℕ, zero, suc, ◌+◌, ◌<◌, ◌≤◌, ◌%◌, Bool, true, false, T, not, ◌&&◌, ltb, ◌==◌, List, [], ◌∷◌, length, map, take, slice_get, slice_index, Some, None, Ok, Err, Option, refl, sym, ap, subst, arith, length-take}
+use Rattle.std.proofs.Common.{◌≡◌, ℕ, ◌+◌, ◌<◌, ◌≤◌, ◌%◌, Bool, true, false, T, not, ◌&&◌, ltb, ◌==◌, List, [], ◌∷◌, length, map, take, slice_get, slice_index, Some, None, Ok, Err, Option, refl, sym, ap, subst, arith, length-take}
 use Rattle.std.proofs.lemmas.List.{length-map}
 use Rattle.std.proofs.Math.Option.{some}
-use mathlib.Core.Option.{none-ne-some}
 use Rattle.std.proofs.lemmas.Bool.{ltb-true, ltb-false}
-use Rattle.reader.specs.declared.operations.Operation.{Operation}
 use Rattle.reader.specs.declared.operations.Operation.TheVariants as o
-use Rattle.reader.specs.declared.values.Operand.{Operand}
 use Rattle.reader.specs.Syntax.{Program}
-use Rattle.typing.specs.Signatures.{Ty, int, bool, packet, ◌⇒◌, provided, signature}
-use Rattle.reader.specs.declared.types.Ty.TheVariants as ty
+use Rattle.typing.specs.Signatures.{Ty, ◌⇒◌, signature}
 use Rattle.store.specs.declared.name.Name.{Name}
 use Rattle.store.specs.declared.denial.Question.{Question}
 use Rattle.store.specs.declared.denial.Question.TheVariants.{Inside}
@@ -17,15 +13,13 @@ use Rattle.store.specs.Packets.{Packet, lookup}
 use Rattle.store.specs.Meaning.{Meaning, units, ask, answer, alive_no, size_of, size_answer, inside_no, byte_of, read_answer}
 use Rattle.rules.specs.State.{State, packets, name, next_name, made, queue, Effect}
 use Rattle.rules.specs.declared.held.Held.{Held}
-use Rattle.rules.specs.declared.held.Held.TheVariants.{Integer as integer, Truth as truth, Owner as owner, Alias as alias}
-use Rattle.rules.specs.Rules.{RoomFor, Gives, made_size, Operates, makes, kills, reads_inside, reads_outside, updates_inside, updates_outside, dequeues, Delays, on_empty, on_room}
+use Rattle.rules.specs.declared.held.Held.TheVariants.{Integer as integer, Owner as owner, Alias as alias}
+use Rattle.rules.specs.Rules.{RoomFor, made_size, Operates, makes, kills, reads_inside, reads_outside, updates_inside, updates_outside, dequeues, Delays, on_empty, on_room}
 use Rattle.rules.specs.declared.outcomes.Cause.{Cause}
 use Rattle.rules.specs.declared.outcomes.Cause.TheVariants.{NoRoom}
-use Rattle.rules.specs.declared.outcomes.Outcome.{Outcome}
 use Rattle.rules.specs.declared.outcomes.Outcome.TheVariants.{Stuck}
 use Rattle.rules.proofs.Typed.{provided-row}
-use Rattle.rules.proofs.Progress.{Canon, an_int, a_bool, an_owner, an_alias, Canons, none_left, and_more, gives-canon}
-use Rattle.machine.specs.Moves.{Finds, Operated}
+use Rattle.machine.specs.Moves.{Operated}
 use Rattle.machine.specs.declared.moves.Outside.TheVariants.{Nothing, Make, Discard, Write, Take}
 
 -- ---- what a store that means m answers of a packet
@@ -125,84 +119,3 @@ queue_stands P q h = go (ltb q (2 + P.queues)) refl (provided-row _ h).0
 -- the first k of at least k lists
 pub taken-length : {A B : Type 0} (f : A → B) (k : ℕ) (xs : List A) → k ≤ length xs → length (map f (take k xs)) ≡ k
 taken-length f k xs h = simp (length-map, length-take) (omega arith)
-
--- ---- the values that an operation takes
--- the types of what an operation takes that is no call of a function
-abbrev pub params : Operation → List Ty
-params (o.Compute c) = int ∷ int ∷ []
-params (o.Compare c) = int ∷ int ∷ []
-params (o.Connect c) = bool ∷ bool ∷ []
-params o.New = int ∷ []
-params o.Kill = packet ∷ []
-params o.Read = ty.Alias ∷ int ∷ []
-params o.Update = ty.Alias ∷ int ∷ int ∷ []
-params (o.Enq q) = packet ∷ []
-params (o.Deq q) = []
-params (o.Function g) = []
-params (o.Unknown k i) = []
-
-module _ (P : Program) {vs ws xs : List Held} {as' : List Operand} {ρs σs : List Ty} where
-  -- by the row of a table that stands
-  canons_at : (b : Bool) {τs : List Ty} (υs : List Ty) → provided b (τs ⇒ υs) ≡ some (ρs ⇒ σs) → Gives vs as' ρs xs ws → Canons τs xs
-  canons_at b υs h g = subst (λ (τs : List Ty). Canons τs xs) (sym (provided-row b h).1) (gives-canon g)
-
-  -- they are values of these types
-  of_types : (op : Operation) → signature P op ≡ some (ρs ⇒ σs) → Gives vs as' ρs xs ws → ((g : ℕ) → op ≢ o.Function g) → Canons (params op) xs
-  of_types (o.Compute c) h g nf = canons_at true _ h g
-  of_types (o.Compare c) h g nf = canons_at true _ h g
-  of_types (o.Connect c) h g nf = canons_at true _ h g
-  of_types o.New h g nf = canons_at true _ h g
-  of_types o.Kill h g nf = canons_at true _ h g
-  of_types o.Read h g nf = canons_at true _ h g
-  of_types o.Update h g nf = canons_at true _ h g
-  of_types (o.Enq q) h g nf = canons_at _ _ h g
-  of_types (o.Deq q) h g nf = canons_at _ _ h g
-  of_types (o.Function i) h g nf = absurd (nf i refl)
-  of_types (o.Unknown k i) h g nf = absurd (none-ne-some (ρs ⇒ σs) h)
-
-  pub arguments : {op op' : Operation} → op ≡ op' → signature P op ≡ some (ρs ⇒ σs) → Gives vs as' ρs xs ws → ((g : ℕ) → op ≢ o.Function g) → Canons (params op') xs
-  arguments {op} e h g nf = subst (λ (w : Operation). Canons (params w) xs) e (of_types op h g nf)
-
--- what a value of a type carries, and the value
-abbrev Carried : Ty → Type 0
-Carried int = ℕ
-Carried bool = Bool
-Carried packet = Name
-Carried ty.Alias = Name
-
-abbrev kind : (τ : Ty) → Carried τ → Held
-kind int k = integer k
-kind bool b = truth b
-kind packet n = owner n
-kind ty.Alias n = alias n
-
-carried : {τ : Ty} {x : Held} → Canon τ x → (k : Carried τ) × (x ≡ kind τ k)
-carried an_int = (_, refl)
-carried a_bool = (_, refl)
-carried an_owner = (_, refl)
-carried an_alias = (_, refl)
-
--- a value of type τ stands where the types have τ
-stands : (τ : Ty) (i : ℕ) {τs : List Ty} {xs : List Held} → Canons τs xs → slice_get τs i ≡ Some τ → (k : Carried τ) × (slice_get xs i ≡ Some (kind τ k))
-stands τ i none_left e = absurd (cc)
-stands τ zero (and_more {x = x} c cs) e = let (k, z) = carried (subst (λ (υ : Ty). Canon υ x) (cc) c) in (k, ap Some z)
-stands τ (suc i) (and_more c cs) e = stands τ i cs e
-
--- so it is found
-pub refused : (τ : Ty) (i : ℕ) {τs : List Ty} {xs : List Held} {e : Outcome} {C : Type 0} → Canons τs xs → slice_get τs i ≡ Some τ → Finds (kind τ) xs i (Err e) → C
-refused τ i {e = e} cs at h = let (k, z) = stands τ i cs at in let bad : Err e ≡ Ok k = (h k).0 z in absurd (cc)
-
--- and the values that are found are all
-pub one_value : {X : Type 0} {f : X → Held} {τ : Ty} {xs : List Held} {a : X} → Canons (τ ∷ []) xs → Finds f xs 0 (Ok a) → xs ≡ f a ∷ []
-one_value (and_more c none_left) h = let e = (h _).1 refl in cc
-
-pub two_values : {X Y : Type 0} {f : X → Held} {g : Y → Held} {τ υ : Ty} {xs : List Held} {a : X} {b : Y}
-    → Canons (τ ∷ υ ∷ []) xs → Finds f xs 0 (Ok a) → Finds g xs 1 (Ok b) → xs ≡ f a ∷ g b ∷ []
-two_values (and_more c (and_more d none_left)) h k = let e = (h _).1 refl in let w = (k _).1 refl in cc
-
-pub three_values : {X Y Z : Type 0} {f : X → Held} {g : Y → Held} {j : Z → Held} {τ υ φ : Ty} {xs : List Held} {a : X} {b : Y} {c : Z}
-    → Canons (τ ∷ υ ∷ φ ∷ []) xs → Finds f xs 0 (Ok a) → Finds g xs 1 (Ok b) → Finds j xs 2 (Ok c) → xs ≡ f a ∷ g b ∷ j c ∷ []
-three_values (and_more p (and_more q (and_more r none_left))) h k l = let e = (h _).1 refl in let w = (k _).1 refl in let z = (l _).1 refl in cc
-
-pub no_value : {xs : List Held} → Canons [] xs → xs ≡ []
-no_value none_left = refl

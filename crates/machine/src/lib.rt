@@ -3,8 +3,10 @@
 
 mod arithmetic;
 pub mod calls;
+mod computing;
 pub mod machine;
 mod memory;
 mod moves;
 mod nodes;
 pub mod runs;
+mod values;

@@ -9,6 +9,7 @@ use store::Name;
 
 pub mod deciding;
 pub mod network;
+pub mod operating;
 pub(crate) mod outside;
 pub mod performing;
 pub mod reading;

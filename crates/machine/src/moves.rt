@@ -20,9 +20,15 @@ pub(crate) struct Draft {
     pub(crate) caller: Frame,
 }
 
-/// How the frames of a thread change into those of a draft.
+/// How the frames of a thread change, some of them into those of a draft.
 #[derive(Debug, Clone, Copy, PartialEq, Eq)]
 pub(crate) enum Change {
+    /// The frame on top goes on at another place. No more than that is written, and what the next two name.
+    Go { place: usize },
+    /// Likewise, with one variable more.
+    Bind { place: usize, held: Held },
+    /// Likewise, with a variable emptied.
+    Spend { place: usize, variable: u8 },
     /// The frame on top becomes the drafted one.
     Top,
     /// The frame on top becomes the drafted caller, and the drafted top stands above it.
@@ -78,9 +84,14 @@ impl Change {
         ensures { (b : List ℕ) → thread_of b thread.new ≡ changed b draft.now self (thread_of b thread.old) }
     {
         match self {
-            Change::Top => thread.set_top(draft.top),
+            Change::Go { place } => thread.advance(place, None, None).unwrap(),
+            Change::Bind { place, held } => thread.advance(place, None, Some(held)).unwrap(),
+            Change::Spend { place, variable } => {
+                thread.advance(place, Some(variable), None).unwrap()
+            }
+            Change::Top => thread.set_top(&draft.top),
             Change::Enter => thread.enter(draft.caller, draft.top).unwrap(),
-            Change::Leave => thread.leave(draft.top),
+            Change::Leave => thread.leave(&draft.top),
             Change::End => thread.end(),
         }
     }
@@ -88,6 +99,7 @@ impl Change {
 
 impl Move {
     /// A change of the frames alone.
+    #[inline(always)]
     pub(crate) fn quiet(change: Change) -> Move
         ensures { result ≡ quiet_move change }
     {

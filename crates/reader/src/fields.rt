@@ -18,6 +18,7 @@ impl<'a> Window<'a> {
     }
 
     /// The `N` bytes at a place.
+    #[inline(always)]
     fn field<const N: usize>(&self, place: usize) -> Result<([u8; N], usize), Fault>
         ensures { result ≡ read_in self.now (bytes_at N) place }
     {
@@ -29,6 +30,7 @@ impl<'a> Window<'a> {
 
     // The pair of what was read and the next place is the stated form of each reader, so `onward` is a clause and no type.
     /// One byte.
+    #[inline(always)]
     pub fn byte(&self, place: usize) -> Result<(u8, usize), Fault>
         ensures reads { result ≡ read_in self.now byte_at place }
         ensures onward { Onward place (length self.now.bytes.now) result }
@@ -38,6 +40,7 @@ impl<'a> Window<'a> {
     }
 
     /// Two bytes, the larger part first.
+    #[inline(always)]
     pub fn half(&self, place: usize) -> Result<(u16, usize), Fault>
         ensures reads { result ≡ read_in self.now half_at place }
         ensures onward { Onward place (length self.now.bytes.now) result }
@@ -47,6 +50,7 @@ impl<'a> Window<'a> {
     }
 
     /// Four bytes, the larger part first.
+    #[inline(always)]
     #[tactic(auto, using(crate::proofs::Spans::word_of))]
     pub fn word(&self, place: usize) -> Result<(u32, usize), Fault>
         ensures reads { result ≡ read_in self.now word_at place }
@@ -57,6 +61,7 @@ impl<'a> Window<'a> {
     }
 
     /// A value, and the place after it.
+    #[inline(always)]
     pub fn value(&self, place: usize) -> Result<(Value, usize), Fault>
         ensures reads { result ≡ read_in self.now value_at place }
         ensures onward { Onward place (length self.now.bytes.now) result }
@@ -97,6 +102,7 @@ impl<'a> Window<'a> {
     }
 
     /// A byte from `low` to `high`, or the question that it answers no.
+    #[inline(always)]
     pub(crate) fn range(
         &self,
         question: Question,
@@ -115,6 +121,7 @@ impl<'a> Window<'a> {
     }
 
     /// A count of at most 8.
+    #[inline(always)]
     pub fn count(&self, place: usize) -> Result<(u8, usize), Fault>
         ensures reads { result ≡ read_in self.now count_at place }
         ensures onward { Onward place (length self.now.bytes.now) result }

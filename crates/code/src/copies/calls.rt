@@ -1,25 +1,22 @@
 //! What a copied program says.
-ghost use Rattle.std.specs.Prelude.{◌≡◌, ◌≤◌, ◌↔◌, length, IsTrue, IfSome};
+ghost use Rattle.std.specs.Prelude.{◌≡◌, ◌↔◌, IsTrue};
 ghost use Rattle.reader.specs.Programs.{header};
 ghost use Rattle.typing.specs.Typing.{Tail};
-ghost use Rattle.records.specs.Tables.{Called};
 ghost use Rattle.code.specs.Copies.{bytes_of, program_of, Listed};
-ghost use Rattle.code.specs.Sights.{sees, Shows, valued, node_there};
+ghost use Rattle.code.specs.Sights.{sees, valued, count_there, Argued};
 
 use super::Code;
 use crate::functions::Function;
+use crate::sights::Sight;
 use checker::variables::consecutive;
 use reader::headers::Header;
-use reader::nodes::Node;
-use reader::operations::Operation;
-use reader::values::Value;
+use reader::values::{Value, Values};
 use reader::windows::{OUTSIDE, Window};
-use records::callees::Callee;
-use records::callees::calls::built_in;
 
 impl Code {
     /// The bytes of the whole program.
-    fn window(&self) -> Window<'_>
+    #[inline(always)]
+    pub(crate) fn window(&self) -> Window<'_>
         ensures bytes { result.bytes.now ≡ bytes_of self.now }
         ensures function { result.function ≡ 255 }
     {
@@ -47,33 +44,6 @@ impl Code {
         self.functions.get(usize::from(function))
     }
 
-    /// What an operation takes and gives, if the program has that operation.
-    pub fn callee(&self, operation: Operation) -> Option<Callee>
-        ensures { Called (program_of self.now) operation result }
-    {
-        match operation {
-            Operation::Function(function) => {
-                let function = self.function(function)?;
-                Some(Callee {
-                    params: function.params,
-                    results: function.results,
-                    depth: Some(function.depth),
-                })
-            }
-            _ => built_in(operation, self.queues),
-        }
-    }
-
-    /// The node at a place, and the place of what follows it.
-    #[inline(always)]
-    pub fn node(&self, place: usize) -> Option<(Node, usize)>
-        ensures reads { result ≡ node_there (bytes_of self.now) place }
-        ensures shows { Shows (bytes_of self.now) place result }
-        ensures inside { IfSome result (λ x. x.1 ≤ length (bytes_of self.now)) }
-    {
-        self.window().node(0, place).ok()
-    }
-
     /// The value at a place, and the place after it.
     #[inline(always)]
     pub fn value(&self, place: usize) -> Option<(Value, usize)>
@@ -82,12 +52,40 @@ impl Code {
         self.window().value(place).ok()
     }
 
+    /// The count of results at a place, and the place after it.
+    #[inline(always)]
+    pub fn results(&self, place: usize) -> Option<(u8, usize)>
+        ensures { result ≡ count_there (bytes_of self.now) place }
+    {
+        self.window().count(place).ok()
+    }
+
+    /// The arguments of a call, if it has `N`, and the place of the node after it.
+    #[inline(always)]
+    pub fn arguments<const N: usize>(&self, values: Values) -> Option<([Value; N], usize)>
+        ensures { Argued (bytes_of self.now) values N result }
+    {
+        if usize::from(values.count) != N {
+            return None;
+        }
+        let mut arguments = [Value::Truth(false); N];
+        // The place goes along by hand: an iterator over the values would owe a relation of what it yields.
+        let mut place = values.place;
+        for i in 0..N {
+            let (value, next) = self.value(place)?;
+            arguments[i] = value;
+            place = next;
+        }
+        let (_, next) = self.results(place)?;
+        Some((arguments, next))
+    }
+
     /// Whether the node at a place returns just the `results` variables from `first` on: then the call before it is a tail call.
     pub fn is_tail(&self, first: u8, results: u8, place: usize) -> bool
         ensures { IsTrue result ↔ Tail first results (sees (bytes_of self.now) place) }
     {
-        match self.node(place) {
-            Some((Node::Return { values }, _)) => {
+        match self.sight(place) {
+            Sight::Return { values } => {
                 values.count == results && consecutive(&self.window(), first, values)
             }
             _ => false,

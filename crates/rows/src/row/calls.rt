@@ -49,6 +49,13 @@ impl<T: Copy, const N: usize> Row<T, N> {
         }
     }
 
+    /// All values leave.
+    pub fn clear(&mut self)
+        ensures { items self.new ≡ [] }
+    {
+        self.len = 0;
+    }
+
     /// The last value leaves.
     pub fn pop(&mut self) -> Option<T>
         ensures last { IfSome result (λ x. items self.old ≡ items self.new ++ x ∷ []) }

@@ -1,13 +1,14 @@
-use Rattle.std.proofs.Common.{◌≤◌, List, length, drop}
-use Rattle.reader.specs.declared.values.Operand.{Operand}
+use Rattle.std.proofs.Common.{◌≡◌, List, ◌++◌, length, drop}
 use Rattle.rows.specs.Rows.{items}
+use Rattle.rules.specs.declared.held.Held.{Held}
 use Rattle.code.specs.Copies.{bytes_of}
-use Rattle.code.specs.Sights.{Lists}
 use Rattle.frames.proofs.Lists.{Giving}
 use Rattle.frames.proofs.giving.give_all.Given as goal
 
+-- a value was given for each type that the loop has passed, and what they gave joined the rest
 abbrev pub invariant-loop-ty : goal.invariant-loop-ty
 invariant-loop-ty l =
-    ((as' : List Operand) → Lists (bytes_of l.code) l.fn.values as'
-    → Giving (bytes_of l.code) (items l.initial.variables) as' (items l.types) (items l.variables) l.place (drop l.ty-index (items l.types)) (items l.given))
-    × (length (items l.given) ≤ l.ty-index)
+    (xs : List Held)
+    × Giving (bytes_of l.code) (items l.initial.variables) l.fn.values (items l.types) (items l.variables) l.place (drop l.ty-index (items l.types)) xs
+    × (items l.given ≡ items l.initial.given ++ xs)
+    × (length xs ≡ l.ty-index)

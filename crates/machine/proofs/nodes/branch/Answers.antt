@@ -1,21 +1,21 @@
-use Rattle.std.proofs.Common.{refl, ap}
+use Rattle.std.proofs.Common.{◌≡◌, Bool, true, false, refl, sym, ap, ◌∙◌}
 use Rattle.code.specs.Copies.{bytes_of}
-use Rattle.code.specs.Sights.{sees}
-use Rattle.machine.proofs.Decides.{not-truth, stuck_if, if_goes_first, if_goes_second}
+use Rattle.machine.proofs.Decides.{stuck_if, if_goes}
+use Rattle.machine.proofs.Serving.{answered, halts}
 use Rattle.machine.proofs.nodes.branch.Goals as goal
 use Rattle.machine.proofs.nodes.branch.Goals.{then-truth, else-truth}
 
--- src/nodes.rt:34:1
-pub returns-after-truth : goal.returns-after-truth
-returns-after-truth c c' s t p fs at =
+pub returns-in_err-truth : goal.returns-in_err-truth
+returns-in_err-truth c c' s t p fs d at =
+    answered (bytes_of c') s t d _ c.from_residual.result c.from_residual.ensures
+    (halts c.in_err-truth.ensures.stuck (stuck_if at (λ k h. let z = (c.in_err-truth.ensures.finds k).0 h in cc)))
+
+pub returns : goal.returns
+returns c c' s t p fs d at =
+    let place : c.if-truth.place ≡ elim c.in_ok-truth.truth [ true ↦ c.args.first | false ↦ c.args.second ] =
     elim c.if-truth.branch [
-      | then-truth w ↦ if_goes_first at (record { top = record { function = c.args.top.now.function; place = _; variables = c.give.new.variables }; caller = c.args.draft.now.caller }) _ c.in-Some.ensures c.in-Truth.is w.if-truth.true refl (ap (sees (bytes_of c')) w.frame-is) c.quiet.ensures
-      | else-truth w ↦ if_goes_second at (record { top = record { function = c.args.top.now.function; place = _; variables = c.give.new.variables }; caller = c.args.draft.now.caller }) _ c.in-Some.ensures c.in-Truth.is w.if-truth.false refl (ap (sees (bytes_of c')) w.frame-is) c.quiet.ensures
+      | then-truth w ↦ w.place-is ∙ ap (λ (k : Bool). elim k [ true ↦ c.args.first | false ↦ c.args.second ]) (sym w.if-truth.true)
+      | else-truth w ↦ w.place-is ∙ ap (λ (k : Bool). elim k [ true ↦ c.args.first | false ↦ c.args.second ]) (sym w.if-truth.false)
     ]
-
--- src/nodes.rt:34:1
-pub returns-in_default : goal.returns-in_default
-returns-in_default c c' s t p fs at = stuck_if at (bytes_of c') c.in_default.ensures.0
-
-pub returns-in_default-held : goal.returns-in_default-held
-returns-in_default-held c c' s t p fs at = absurd (not-truth c.in-Some.ensures c.in_default-held.not-Truth)
+    in
+    if_goes at d _ c.args.first c.args.second _ c.in_ok-truth.truth refl refl ((c.in_ok-truth.ensures.finds _).1 refl) place c.quiet.ensures

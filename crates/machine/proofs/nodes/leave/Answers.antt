@@ -1,15 +1,14 @@
-use Rattle.rows.specs.Rows.{items}
-use Rattle.code.specs.Copies.{bytes_of}
-use Rattle.machine.proofs.Decides.{leaves, room_below, false_not_true, stuck-without_results}
+use Rattle.std.proofs.Common.{◌++◌, ap, ◌∙◌}
+use Rattle.machine.proofs.Decides.{stuck_ending, leaves, room_below}
 use Rattle.machine.proofs.nodes.leave.Goals as goal
 
--- src/nodes.rt:76:9
-pub returns-in_default : goal.returns-in_default
-returns-in_default c s t p as' fs h at = stuck-without_results at (bytes_of c.args.code.now) c.in_default.is (c.results.ensures as' h)
+pub returns-in-Some : goal.returns-in-Some
+returns-in-Some c s t p fs at =
+    let (F, as', xs, ws, i, read, gives, same, stays, joined) = c.in-Some.ensures in
+    leaves c.args.code.now s t p c.args.top.now F i as' _ _ read gives c.give_results.new.draft _ c.args.below.now at (same ∙ c.copy_from.ensures.function) (stays ∙ c.copy_from.ensures.place)
+    (joined ∙ ap (λ vs. vs ++ xs) c.copy_from.ensures.variables) c.quiet.ensures
 
-pub returns-in-Err : goal.returns-in-Err
-returns-in-Err c s t p as' fs h at = absurd (false_not_true (c.in-Err.ensures.room.1 (room_below c.args.code.now s t p c.args.top.now as' (items c.in-Some.given) (c.in-Some.ensures as' h) (bytes_of c.args.code.now) c.args.below.now fs at)))
-
-pub returns-in-Ok : goal.returns-in-Ok
-returns-in-Ok c s t p as' fs h at =
-    leaves c.args.code.now s t p c.args.top.now as' (items c.in-Some.given) (c.in-Some.ensures as' h) (bytes_of c.args.code.now) (record { top = c.bind.new.self; caller = c.args.draft.now.caller }) c.quiet.result c.args.below.now at (c.in-Ok.ensures.ok (bytes_of c.args.code.now)) c.quiet.ensures
+pub returns-in-None : goal.returns-in-None
+returns-in-None c s t p fs at =
+    stuck_ending c.args.code.now s t p c.args.top.now _ _ at (λ as' stop r F xs ws i gives.
+    c.in-None.ensures F i (room_below c.args.code.now s t p c.args.top.now F i c.args.below.now c.copy_from.new.self at c.copy_from.ensures.variables) as' stop r xs ws gives)

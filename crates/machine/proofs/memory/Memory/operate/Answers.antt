@@ -1,26 +1,38 @@
+-- Each arm, by what its operation is.
 use Rattle.std.proofs.Common.{refl}
-use Rattle.code.specs.Copies.{bytes_of}
-use Rattle.machine.proofs.Decides.{false_not_true, stuck-no_operation, stuck-without_arguments, pauses, operates, room_for_results}
+use Rattle.machine.specs.States.{state_of}
+use Rattle.machine.proofs.Serving.{unknown}
 use Rattle.machine.proofs.memory.Memory.operate.Goals as goal
 
-pub returns-in_default : goal.returns-in_default
-returns-in_default g c p as' fs nf h at = stuck-no_operation at (bytes_of c.args.self.now.code) c.in_default.ensures
+pub returns-in-Compute : goal.returns-in-Compute
+returns-in-Compute g c nf = rw c.in-Compute.is (c.compute.ensures (state_of c.args.self.now (g.S.Store.meaning c.args.store.now)) c.args.thread)
 
-pub returns-in_default-give_all : goal.returns-in_default-give_all
-returns-in_default-give_all g c p as' fs nf h at = stuck-without_arguments at c.in-Some.ensures.0 (bytes_of c.args.self.now.code) (c.in_default-give_all.ensures as' h)
+pub returns-in-Compare : goal.returns-in-Compare
+returns-in-Compare g c nf = rw c.in-Compare.is (c.compared.ensures (state_of c.args.self.now (g.S.Store.meaning c.args.store.now)) c.args.thread)
 
-pub returns-in-Err : goal.returns-in-Err
-returns-in-Err g c p as' fs nf h at =
-    let gs = c.in-Some-give_all.ensures as' h in
-    pauses at c.in-Some.ensures.0 nf gs (bytes_of c.args.self.now.code) c.in-Err.outcome (c.in-Err.ensures _ _ _ _ as' c.in-Some.ensures.0 gs nf)
+pub returns-in-Connect : goal.returns-in-Connect
+returns-in-Connect g c nf = rw c.in-Connect.is (c.connected.ensures (state_of c.args.self.now (g.S.Store.meaning c.args.store.now)) c.args.thread)
 
-pub returns-in-Ok-bind : goal.returns-in-Ok-bind
-returns-in-Ok-bind g c p as' fs nf h at =
-    let gs = c.in-Some-give_all.ensures as' h in
-    operates at c.in-Some.ensures.0 nf gs _ (record { top = record { function = c.args.top.now.function; place = c.args.call.next; variables = c.bind.new.variables }; caller = c.args.draft.now.caller }) c.in-Ok.happens
-    (c.in-Ok.ensures _ _ _ _ as' c.in-Some.ensures.0 gs nf) c.in-Ok-bind.ensures.ok refl refl refl refl
+pub returns-in-New : goal.returns-in-New
+returns-in-New g c nf = rw c.in-New.is (c.new_call.ensures)
 
-pub returns-in-Err-bind : goal.returns-in-Err-bind
-returns-in-Err-bind g c p as' fs nf h at =
-    let gs = c.in-Some-give_all.ensures as' h in
-    absurd (false_not_true (c.in-Err-bind.ensures.room.1 (room_for_results at c.in-Some.ensures.0 nf gs c.in-Ok.happens (c.in-Ok.ensures _ _ _ _ as' c.in-Some.ensures.0 gs nf))))
+pub returns-in-Kill : goal.returns-in-Kill
+returns-in-Kill g c nf = rw c.in-Kill.is (c.kill_call.ensures c.args.thread)
+
+pub returns-in-Read : goal.returns-in-Read
+returns-in-Read g c nf = rw c.in-Read.is (c.read_call.ensures c.args.thread)
+
+pub returns-in-Update : goal.returns-in-Update
+returns-in-Update g c nf = rw c.in-Update.is (c.update_call.ensures c.args.thread)
+
+pub returns-in-Enq : goal.returns-in-Enq
+returns-in-Enq g c nf = rw c.in-Enq.is (c.enq_call.ensures c.args.thread)
+
+pub returns-in-Deq : goal.returns-in-Deq
+returns-in-Deq g c nf = rw c.in-Deq.is (c.deq_call.ensures c.args.thread)
+
+pub returns-in-Function : goal.returns-in-Function
+returns-in-Function g c nf p fs d at = absurd (nf _ c.in-Function.is)
+
+pub returns-in-Unknown : goal.returns-in-Unknown
+returns-in-Unknown g c nf p fs d at = unknown c.args.self.now.code (state_of c.args.self.now (g.S.Store.meaning c.args.store.now)) c.args.thread p _ c.args.top.now c.args.arguments fs (rw c.in-Unknown.is at at) refl refl

@@ -1,0 +1,13 @@
+use Rattle.std.proofs.Common.{subst}
+use Rattle.code.specs.Copies.{bytes_of}
+use Rattle.machine.specs.Moves.{alone, Operated}
+use Rattle.machine.proofs.Decides.{pauses, spends}
+use Rattle.machine.proofs.Serving.{answered}
+use Rattle.machine.proofs.computing.spend.Goals as goal
+
+pub returns-in_err-happens : goal.returns-in_err-happens
+returns-in_err-happens c c' s t p k f op as' fs ρs σs xs d at nf sg inside gs h =
+    answered (bytes_of c') s t d _ c.from_residual.result c.from_residual.ensures (pauses c.args.next at nf sg gs _ (subst (λ r. Operated s t op xs (alone r)) c.in_err-happens.was h))
+
+pub returns : goal.returns
+returns c c' s t p k f op as' fs ρs σs xs d at nf sg inside gs h = spends c.args.next at nf sg d c.args.variable _ inside gs (subst (λ r. Operated s t op xs (alone r)) c.in_ok-happens.was h)
