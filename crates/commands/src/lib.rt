@@ -31,7 +31,7 @@ use std::process::ExitCode;
 use std::{env, io};
 
 const USAGE: &str =
-    "usage: paclang check FILE | verdicts | disassemble FILE | run FILE --store slab|chain|split | stores | script | steps FILE COUNT | time-stores KIND PACKETS CALLS";
+    "usage: paclang check FILE | verdicts | disassemble FILE | run FILE --store slab|chain|split | stores | script | time-stores KIND PACKETS CALLS";
 
 /// Runs the command that the arguments name; a failure where the answer is a denial or the arguments are wrong, and where
 /// input or output fails, with a line on standard error. What is written no clause can say.
@@ -40,6 +40,27 @@ pub fn run(rt: &HostRuntime) -> io::Result<ExitCode> {
         eprintln!(rt; "paclang: {error}")?;
         Ok(ExitCode::FAILURE)
     })
+}
+
+/// Steps the program in the file that the first argument names, as many times as the second one says: a command of its own, so
+/// that the program that has it is compiled for one kind of store. Failures are as above.
+pub fn run_steps(rt: &HostRuntime) -> io::Result<ExitCode> {
+    dispatch_steps(rt).or_else(|error| {
+        eprintln!(rt; "steps: {error}")?;
+        Ok(ExitCode::FAILURE)
+    })
+}
+
+fn dispatch_steps(rt: &HostRuntime) -> io::Result<ExitCode> {
+    let mut arguments = env::args(rt)?.skip(1);
+    let (file, count) = (arguments.next(), arguments.next());
+    if let (Some(file), Some(count)) = (file, count) {
+        if let Ok(count) = count.parse() {
+            return stepping::step_file(rt, &file, count);
+        }
+    }
+    eprintln!(rt; "usage: steps FILE COUNT")?;
+    Ok(ExitCode::FAILURE)
 }
 
 fn dispatch(rt: &HostRuntime) -> io::Result<ExitCode> {
@@ -53,10 +74,6 @@ fn dispatch(rt: &HostRuntime) -> io::Result<ExitCode> {
         ["run", file, "--store", kind] => match Kind::read(kind) {
             Some(kind) => running::run_file(rt, file, kind),
             None => refuse(rt),
-        },
-        ["steps", file, count] => match count.parse() {
-            Ok(count) => stepping::step_file(rt, file, count),
-            Err(_) => refuse(rt),
         },
         ["stores"] => showing::show_stores(rt),
         ["script"] => scripts::play_input(rt),

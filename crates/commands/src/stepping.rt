@@ -1,12 +1,11 @@
-//! `paclang steps`: many steps of a program's threads in turn, to be timed from outside.
+//! Many steps of a program's threads in turn, to be timed from outside.
 use crate::denial::deny;
-use crate::lending::{Lend, Visitor};
+use crate::lending::LEFT_OVER;
 use crate::loading::load;
-use crate::shapes::Leaf;
 use machine::machine::Machine;
 use rules::outcomes::Outcome;
 use rules::questions::Refusal;
-use std::alloc::AllocError;
+use slab_store::{Slot, slab_over};
 use std::io;
 use std::process::ExitCode;
 use store::Store;
@@ -15,19 +14,14 @@ use store::Store;
 const SLOTS: usize = 64;
 
 /// Steps the program in a file, and writes what came of the steps.
-pub(crate) fn step_file(rt: &HostRuntime, path: &str, steps: u64) -> io::Result<ExitCode> {
+pub(crate) fn step_file(rt: &HostRuntime, path: &str, count: u64) -> io::Result<ExitCode> {
     let Some(program) = load(rt, path)? else {
         return Ok(ExitCode::FAILURE);
     };
-    let slab = Leaf::Slab {
-        memory: 256 * SLOTS,
-        slots: SLOTS,
-    };
-    let turns = Turns {
-        program: &program,
-        steps,
-    };
-    match slab.lend(rt.alloc(), turns)? {
+    let heap = rt.alloc();
+    let mut memory = vec![in heap; LEFT_OVER; 256 * SLOTS]?;
+    let mut slots = vec![in heap; Slot::free(); SLOTS]?;
+    match steps(slab_over(&mut memory, &mut slots), &program, count) {
         Ok(
             Tally {
                 advances,
@@ -66,29 +60,17 @@ impl Tally {
 }
 
 /// So many steps of a program, of each thread in turn.
-#[derive(Debug, Clone, Copy, Drop)]
-struct Turns<'a> {
-    program: &'a [u8],
-    steps: u64,
-}
-
-impl Visitor for Turns<'_> {
-    type Output = Result<Tally, Refusal>;
-
-    fn visit<S: Store + Drop>(self, store: S) -> Result<Result<Tally, Refusal>, AllocError> {
-        let mut machine = Machine::new(store);
-        if let Err(refusal) = machine.load(self.program, u32::MAX) {
-            return Ok(Err(refusal));
+fn steps<S: Store + Drop>(store: S, program: &[u8], count: u64) -> Result<Tally, Refusal> {
+    let mut machine = Machine::new(store);
+    machine.load(program, u32::MAX)?;
+    let threads = machine.header().map_or(0, |header| header.threads);
+    let mut tally = Tally::default();
+    let mut thread = 1;
+    for _ in 0..count {
+        if let Ok(outcome) = machine.step(thread) {
+            tally.count(outcome);
         }
-        let threads = machine.header().map_or(0, |header| header.threads);
-        let mut tally = Tally::default();
-        let mut thread = 1;
-        for _ in 0..self.steps {
-            if let Ok(outcome) = machine.step(thread) {
-                tally.count(outcome);
-            }
-            thread = if thread < threads { thread + 1 } else { 1 };
-        }
-        Ok(Ok(tally))
+        thread = if thread < threads { thread + 1 } else { 1 };
     }
+    Ok(tally)
 }
