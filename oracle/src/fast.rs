@@ -1,81 +1,16 @@
 //! The machine once more, for speed: the program decoded once, frames and variables in
 //! fixed arrays, packets in the slots of a slab. What it answers is what `machine.rs`
-//! answers over a slab; the tests hold the two side by side.
+//! answers over a slab; the tests hold the machines side by side.
 
 use crate::calls::{DEQ, ENQ, FUNCTION};
 use crate::code::{self, Code};
 use crate::fault::Answer;
-use crate::machine::{Outcome, MOST_FRAMES, MOST_IN_QUEUE};
+use crate::machine::{Outcome, Variable, MOST_FRAMES};
+use crate::outside::{Outside, Taken};
 use crate::stores::Name;
 use crate::tree::{Call, Type, Value, Word};
 
-const SLOT: usize = 256;
 const MOST_VARIABLES: usize = 16;
-const MOST_QUEUES: usize = 8;
-
-// ---- slots ----
-
-#[derive(Clone, Copy)]
-struct Label {
-    name: Name,
-    holder: u8,
-    size: u16,
-}
-
-/// Slot i has the 256 bytes from 256 · i on.
-struct Slab {
-    memory: Vec<u8>,
-    labels: Vec<Option<Label>>,
-    used: usize,
-}
-
-impl Slab {
-    fn new(slots: usize) -> Slab {
-        Slab { memory: vec![0; slots * SLOT], labels: vec![None; slots], used: 0 }
-    }
-
-    fn find(&self, name: Name) -> Option<usize> {
-        self.labels.iter().position(|label| label.is_some_and(|label| label.name == name))
-    }
-
-    fn bytes(&self, name: Name) -> Option<&[u8]> {
-        let slot = self.find(name)?;
-        let size = usize::from(self.labels[slot]?.size);
-        Some(&self.memory[slot * SLOT..][..size])
-    }
-
-    fn bytes_mut(&mut self, name: Name) -> Option<&mut [u8]> {
-        let slot = self.find(name)?;
-        let size = usize::from(self.labels[slot]?.size);
-        Some(&mut self.memory[slot * SLOT..][..size])
-    }
-
-    fn has_room(&self) -> bool {
-        self.used < self.labels.len()
-    }
-
-    /// The name is not alive, and a slot is free.
-    fn make(&mut self, name: Name, size: usize) -> Option<()> {
-        let slot = self.labels.iter().position(Option::is_none)?;
-        self.memory[slot * SLOT..][..size].fill(0);
-        self.labels[slot] = Some(Label { name, holder: name.maker, size: size as u16 });
-        self.used += 1;
-        Some(())
-    }
-
-    fn discard(&mut self, name: Name) -> Option<()> {
-        let slot = self.find(name)?;
-        self.labels[slot] = None;
-        self.used -= 1;
-        Some(())
-    }
-
-    fn hand(&mut self, name: Name, holder: u8) -> Option<()> {
-        let slot = self.find(name)?;
-        self.labels[slot].as_mut()?.holder = holder;
-        Some(())
-    }
-}
 
 // ---- decoded programs ----
 
@@ -215,15 +150,6 @@ fn count_bound(code: &Code, node: usize, now: usize, bound: &mut [usize]) {
 
 // ---- threads ----
 
-#[derive(Clone, Copy, PartialEq, Eq)]
-enum Variable {
-    Int(u32),
-    Truth(bool),
-    Owner(Name),
-    Alias(Name),
-    Nothing,
-}
-
 #[derive(Clone, Copy)]
 struct Frame {
     function: u8,
@@ -231,8 +157,6 @@ struct Frame {
     node: u16,
     variables: [Variable; MOST_VARIABLES],
 }
-
-type Taken<T> = Result<T, Outcome>;
 
 impl Frame {
     fn new(function: u8, node: u16) -> Frame {
@@ -341,39 +265,10 @@ impl Frame {
     }
 }
 
-struct Queue {
-    names: [Name; MOST_IN_QUEUE],
-    first: usize,
-    len: usize,
-}
-
-impl Queue {
-    fn new() -> Queue {
-        Queue { names: [Name { maker: 0, count: 0 }; MOST_IN_QUEUE], first: 0, len: 0 }
-    }
-
-    fn front(&self) -> Option<Name> {
-        if self.len == 0 { None } else { Some(self.names[self.first % MOST_IN_QUEUE]) }
-    }
-
-    fn pop(&mut self) {
-        self.first = (self.first + 1) % MOST_IN_QUEUE;
-        self.len -= 1;
-    }
-
-    fn push(&mut self, name: Name) {
-        self.names[(self.first + self.len) % MOST_IN_QUEUE] = name;
-        self.len += 1;
-    }
-}
-
 pub struct Fast {
     program: Decoded,
     threads: Vec<Vec<Frame>>,
-    queues: Vec<Queue>,
-    counts: [u32; 9],
-    limit: u32,
-    slab: Slab,
+    outside: Outside,
 }
 
 impl Fast {
@@ -389,14 +284,14 @@ impl Fast {
                 frames
             })
             .collect();
-        let queues = (0..MOST_QUEUES).map(|_| Queue::new()).collect();
-        Ok(Fast { program, threads, queues, counts: [0; 9], limit, slab: Slab::new(slots) })
+        Ok(Fast { program, threads, outside: Outside::new(limit, slots) })
     }
 
     pub fn threads(&self) -> usize {
         self.threads.len()
     }
 
+    #[inline]
     pub fn step(&mut self, thread: usize) -> Outcome {
         match self.advance(thread) {
             Ok(()) => Outcome::Advanced,
@@ -404,8 +299,9 @@ impl Fast {
         }
     }
 
+    #[inline]
     fn advance(&mut self, thread: usize) -> Taken<()> {
-        let Fast { program, threads, queues, counts, limit, slab } = self;
+        let Fast { program, threads, outside } = self;
         let frames = &mut threads[thread - 1];
         let top = frames.last_mut().ok_or(Outcome::Ended)?;
         match program.nodes[usize::from(top.node)] {
@@ -426,33 +322,32 @@ impl Fast {
                 Ok(())
             }
             Node::New { size, next } => {
-                let name = Name { maker: thread as u8, count: counts[thread] };
-                make(slab, top, name, *limit, size)?;
-                counts[thread] += 1;
+                let name = outside.make(thread, top.int(size)?)?;
                 top.go_on(next, Variable::Owner(name))
             }
             Node::Kill { packet, next } => {
-                slab.discard(top.owner(packet)?).ok_or(Outcome::Stuck)?;
+                outside.kill(top.owner(packet)?)?;
                 top.spend(packet);
                 top.node = next;
                 Ok(())
             }
             Node::Read { packet, offset, next } => {
-                let byte = read(slab, top, packet, offset)?;
+                let byte = outside.read(top.alias(packet)?, top.int(offset)?)?;
                 top.go_on(next, Variable::Int(byte.into()))
             }
             Node::Update { packet, offset, byte, next } => {
-                update(slab, top, packet, offset, byte)?;
+                outside.update(top.alias(packet)?, top.int(offset)?, top.int(byte)?)?;
                 top.node = next;
                 Ok(())
             }
             Node::Enq { queue, packet, next } => {
-                enq(&mut queues[usize::from(queue)], top, packet)?;
+                outside.enq(queue, top.owner(packet)?)?;
+                top.spend(packet);
                 top.node = next;
                 Ok(())
             }
             Node::Deq { queue, next } => {
-                let name = deq(slab, &mut queues[usize::from(queue)], thread as u8)?;
+                let name = outside.deq(queue, thread)?;
                 top.go_on(next, Variable::Owner(name))
             }
             Node::Call { function, args, tail, next } => {
@@ -463,53 +358,12 @@ impl Fast {
     }
 }
 
-fn make(slab: &mut Slab, top: &Frame, name: Name, limit: u32, size: Word) -> Taken<()> {
-    let size = top.int(size)?.min(SLOT as u32) as usize;
-    if name.count == limit {
-        return Err(Outcome::Waits(3));
-    }
-    if !slab.has_room() {
-        return Err(Outcome::Waits(4));
-    }
-    slab.make(name, size).ok_or(Outcome::Stuck)
-}
-
-fn read(slab: &Slab, top: &Frame, packet: Word, offset: Word) -> Taken<u8> {
-    let (name, offset) = (top.alias(packet)?, top.int(offset)?);
-    let bytes = slab.bytes(name).ok_or(Outcome::Stuck)?;
-    Ok(bytes.get(offset as usize).copied().unwrap_or(0))
-}
-
-fn update(slab: &mut Slab, top: &Frame, packet: Word, offset: Word, byte: Word) -> Taken<()> {
-    let (name, offset, byte) = (top.alias(packet)?, top.int(offset)?, top.int(byte)?);
-    let bytes = slab.bytes_mut(name).ok_or(Outcome::Stuck)?;
-    if let Some(place) = bytes.get_mut(offset as usize) {
-        *place = byte as u8;
-    }
-    Ok(())
-}
-
-fn enq(queue: &mut Queue, top: &mut Frame, packet: Word) -> Taken<()> {
-    let name = top.owner(packet)?;
-    if queue.len == MOST_IN_QUEUE {
-        return Err(Outcome::Waits(2));
-    }
-    queue.push(name);
-    top.spend(packet);
-    Ok(())
-}
-
-fn deq(slab: &mut Slab, queue: &mut Queue, thread: u8) -> Taken<Name> {
-    let name = queue.front().ok_or(Outcome::Waits(1))?;
-    slab.hand(name, thread).ok_or(Outcome::Stuck)?;
-    queue.pop();
-    Ok(name)
-}
-
+#[inline]
 fn words(program: &Decoded, list: List) -> &[Word] {
     &program.words[list.start as usize..][..usize::from(list.len)]
 }
 
+#[inline]
 fn call(
     program: &Decoded,
     frames: &mut Vec<Frame>,
@@ -536,6 +390,7 @@ fn call(
     Ok(())
 }
 
+#[inline]
 fn give_back(program: &Decoded, frames: &mut Vec<Frame>, values: List) -> Taken<()> {
     let (top, below) = frames.split_last_mut().ok_or(Outcome::Ended)?;
     let results = &program.functions[usize::from(top.function)].results;
@@ -558,53 +413,7 @@ fn give_back(program: &Decoded, frames: &mut Vec<Frame>, values: List) -> Taken<
 
 #[cfg(test)]
 impl Fast {
-    /// An arrival, if it is granted.
-    pub fn arrive(&mut self, bytes: &[u8]) -> Option<()> {
-        let name = Name { maker: 0, count: self.counts[0] };
-        let receive = &mut self.queues[0];
-        if bytes.len() > SLOT || receive.len == MOST_IN_QUEUE || name.count == self.limit {
-            return None;
-        }
-        self.slab.make(name, bytes.len())?;
-        self.slab.bytes_mut(name)?.copy_from_slice(bytes);
-        receive.push(name);
-        self.counts[0] += 1;
-        Some(())
+    pub fn outside(&mut self) -> &mut Outside {
+        &mut self.outside
     }
-
-    pub fn packets(&self) -> std::collections::BTreeMap<Name, crate::stores::Packet> {
-        let alive = self.slab.labels.iter().flatten();
-        alive
-            .map(|label| {
-                let bytes = self.slab.bytes(label.name).unwrap_or(&[]).to_vec();
-                (label.name, crate::stores::Packet { holder: label.holder, bytes })
-            })
-            .collect()
-    }
-}
-
-/// What the steps of a run came to.
-#[derive(Default)]
-pub struct Steps {
-    pub advances: u64,
-    pub waits: u64,
-    pub ended: u64,
-    pub stuck: u64,
-}
-
-/// So many steps, of each thread in turn.
-pub fn run(machine: &mut Fast, steps: u64) -> Steps {
-    let mut sums = Steps::default();
-    let threads = machine.threads();
-    let mut thread = 0;
-    for _ in 0..steps {
-        thread = if thread == threads { 1 } else { thread + 1 };
-        match machine.step(thread) {
-            Outcome::Advanced => sums.advances += 1,
-            Outcome::Waits(_) => sums.waits += 1,
-            Outcome::Ended => sums.ended += 1,
-            Outcome::Stuck => sums.stuck += 1,
-        }
-    }
-    sums
 }

@@ -129,7 +129,7 @@ fn enter(code: &Code, frames: &mut Vec<Frame>, call: &Call, next: usize) -> Resu
     Ok(())
 }
 
-fn arithmetic(index: u8, a: u32, b: u32) -> u32 {
+pub fn arithmetic(index: u8, a: u32, b: u32) -> u32 {
     match index {
         0 => a.wrapping_add(b),
         1 => a.wrapping_sub(b),

@@ -2,6 +2,7 @@
 //! generator of cases to compare it with. See README.md.
 
 mod aim;
+mod bytes;
 mod calls;
 mod cases;
 mod code;
@@ -13,11 +14,13 @@ mod judge;
 mod lively;
 mod machine;
 mod make;
+mod outside;
 mod read;
 mod rng;
 mod scribe;
 mod script;
 mod spoil;
+mod steps;
 mod stores;
 mod tally;
 #[cfg(test)]
@@ -34,6 +37,7 @@ use std::hint::black_box;
 use std::io::{self, BufRead, BufReader, BufWriter, Write};
 use std::process::ExitCode;
 use std::time::Instant;
+use steps::Steps;
 
 const USAGE: &str = "usage:
   oracle verdicts [--layer 1|2|3]                      programs in, verdicts out
@@ -46,7 +50,8 @@ const USAGE: &str = "usage:
   oracle store-tally SEED CALLS                        what happens in such scripts of all kinds, counted
   oracle machine-tally SEED CALLS
   oracle steps FILE STEPS [SLOTS]                      steps of each thread of a program in turn
-  oracle plain-steps FILE STEPS [SLOTS]                the same by the machine over a map";
+  oracle plain-steps FILE STEPS [SLOTS]                the same by the machine over a map
+  oracle byte-steps FILE STEPS [SLOTS]                 the same by the machine that reads the program's bytes";
 
 fn main() -> ExitCode {
     let args: Vec<String> = std::env::args().skip(1).collect();
@@ -57,10 +62,9 @@ fn main() -> ExitCode {
         Some((&"tally", [])) => tally(),
         Some((&"time", [file, repeat])) => time(file, repeat),
         Some((&"script", [])) => script(),
-        Some((&"steps", [file, steps])) => steps_of(file, steps, "64"),
-        Some((&"steps", [file, steps, slots])) => steps_of(file, steps, slots),
-        Some((&"plain-steps", [file, steps])) => plain_steps_of(file, steps, "64"),
-        Some((&"plain-steps", [file, steps, slots])) => plain_steps_of(file, steps, slots),
+        Some((&"steps", rest)) => steps_of(rest, fast_steps),
+        Some((&"plain-steps", rest)) => steps_of(rest, plain_steps),
+        Some((&"byte-steps", rest)) => steps_of(rest, byte_steps),
         Some((&"store-calls", [kind, seed, calls])) => store_calls(kind, seed, calls),
         Some((&"machine-calls", [kind, seed, calls])) => machine_calls(kind, seed, calls),
         Some((&"store-tally", [seed, calls])) => script_tally(seed, calls, false),
@@ -251,11 +255,19 @@ fn program_file(file: &str) -> Result<Vec<u8>, String> {
     hex::decode(&bare).map_err(|e| format!("{file}: {e}"))
 }
 
-fn steps_of(file: &str, steps: &str, slots: &str) -> Result<(), String> {
+/// Steps of a program, by one of the machines: from its bytes, over so many slots, so many.
+fn steps_of(
+    words: &[&str],
+    run: fn(&[u8], u64, u64) -> Result<Steps, String>,
+) -> Result<(), String> {
+    let (file, steps, slots) = match *words {
+        [file, steps] => (file, steps, "64"),
+        [file, steps, slots] => (file, steps, slots),
+        _ => return Err(USAGE.to_string()),
+    };
     let bytes = program_file(file)?;
-    let (steps, slots) = (number(steps)?, number(slots)? as usize);
-    let mut machine = fast::Fast::load(&bytes, u32::MAX, slots).map_err(|fault| format!("{file}: {fault}"))?;
-    let sums = fast::run(&mut machine, steps);
+    let (steps, slots) = (number(steps)?, number(slots)?);
+    let sums = run(&bytes, slots, steps).map_err(|refusal| format!("{file}: {refusal}"))?;
     println!("advances {} waits {} ended {}", sums.advances, sums.waits, sums.ended);
     if sums.stuck > 0 {
         return Err(format!("stuck {}", sums.stuck));
@@ -263,26 +275,25 @@ fn steps_of(file: &str, steps: &str, slots: &str) -> Result<(), String> {
     Ok(())
 }
 
-/// The same over a store that is a map.
-fn plain_steps_of(file: &str, steps: &str, slots: &str) -> Result<(), String> {
-    let bytes = program_file(file)?;
-    let (steps, slots) = (number(steps)?, number(slots)?);
+fn fast_steps(bytes: &[u8], slots: u64, steps: u64) -> Result<Steps, String> {
+    let mut machine =
+        fast::Fast::load(bytes, u32::MAX, slots as usize).map_err(|fault| fault.to_string())?;
+    Ok(steps::in_turn(machine.threads(), steps, |thread| machine.step(thread)))
+}
+
+/// Over a store that is a map.
+fn plain_steps(bytes: &[u8], slots: u64, steps: u64) -> Result<Steps, String> {
     let slab = stores::Shape::Slab { memory: 256 * slots, records: slots };
     let mut machine = machine::Machine::new(stores::Store::new(slab));
-    machine.load(&bytes, u32::MAX).map_err(|refusal| format!("{file}: {refusal:?}"))?;
-    let threads = machine.running.as_ref().map_or(1, |running| running.threads.len() as u64);
-    let mut sums = fast::Steps::default();
-    for i in 0..steps {
-        match machine.step(1 + i % threads) {
-            Ok(machine::Outcome::Advanced) => sums.advances += 1,
-            Ok(machine::Outcome::Waits(_)) => sums.waits += 1,
-            Ok(machine::Outcome::Ended) => sums.ended += 1,
-            Ok(machine::Outcome::Stuck) | Err(_) => sums.stuck += 1,
-        }
-    }
-    println!("advances {} waits {} ended {}", sums.advances, sums.waits, sums.ended);
-    if sums.stuck > 0 {
-        return Err(format!("stuck {}", sums.stuck));
-    }
-    Ok(())
+    machine.load(bytes, u32::MAX).map_err(|refusal| format!("{refusal:?}"))?;
+    let threads = machine.running.as_ref().map_or(1, |running| running.threads.len());
+    Ok(steps::in_turn(threads, steps, |thread| {
+        machine.step(thread as u64).unwrap_or(machine::Outcome::Stuck)
+    }))
+}
+
+fn byte_steps(bytes: &[u8], slots: u64, steps: u64) -> Result<Steps, String> {
+    let mut machine = bytes::Bytewise::load(bytes, u32::MAX, slots as usize)
+        .map_err(|fault| fault.to_string())?;
+    Ok(steps::in_turn(machine.threads(), steps, |thread| machine.step(thread)))
 }

@@ -1,16 +1,19 @@
 //! Stores, machine, scripts, and the programs made for them.
 
-use crate::code::Node;
+use crate::bytes::Bytewise;
+use crate::code::{Code, Node};
 use crate::fast::Fast;
 use crate::hex;
 use crate::judge::check;
 use crate::lively::lively;
-use crate::machine::{Machine, Outcome, Refusal, Variable};
+use crate::machine::{Frame, Machine, Outcome, Refusal, Running, Variable};
+use crate::read::read;
 use crate::rng::Rng;
 use crate::scribe::{Kind, Scribe, KINDS};
 use crate::script::{Session, Stands};
+use crate::spoil::mutated;
 use crate::stores::{Name, Shape, Store};
-use std::collections::BTreeMap;
+use std::collections::{BTreeMap, VecDeque};
 
 const SENDER: &str = "003E01010001003800000003030001100000000A0103030303120010000000001000000005000303030312\
                       001000000001100000000A00030401011200000100";
@@ -282,16 +285,18 @@ fn run_until_still(machine: &mut Machine) -> usize {
     steps
 }
 
-/// The examples of the samples' page.
+/// What arrives at the door lock, and what is collected then: the examples of the samples' page.
+const DOOR: [(&str, Option<&str>); 5] = [
+    ("0103004D004F", Some("0103004D014E")),
+    ("0109004D0045", Some("0109004D0247")),
+    ("020100050006", Some("020100050305")),
+    ("030100050007", None),
+    ("0103004D004E", None),
+];
+
 #[test]
 fn the_door_lock() {
-    for (arrives, collected) in [
-        ("0103004D004F", Some("0103004D014E")),
-        ("0109004D0045", Some("0109004D0247")),
-        ("020100050006", Some("020100050305")),
-        ("030100050007", None),
-        ("0103004D004E", None),
-    ] {
+    for (arrives, collected) in DOOR {
         let mut machine = loaded(&sample("door_lock"), 9, slab(1));
         machine.arrive(&bytes(arrives)).unwrap();
         run_until_still(&mut machine);
@@ -307,9 +312,8 @@ fn the_door_lock() {
     }
 }
 
-#[test]
-fn the_forwarder_sends_on() {
-    let mut machine = loaded(&sample("ipv4_forward"), 9, slab(4));
+/// A frame that the forwarder sends on.
+fn ipv4_frame() -> Vec<u8> {
     let mut frame = bytes("FFFFFFFFFFFF 000000000001 0800 4500001C 00000000 40110000 C0A80001 0A000002 0000000000080000");
     // The header's checksum: the complement of the sum of its words.
     let words = frame[14..34].chunks(2).map(|pair| u32::from(pair[0]) << 8 | u32::from(pair[1]));
@@ -317,6 +321,13 @@ fn the_forwarder_sends_on() {
     sum = (sum & 0xFFFF) + (sum >> 16);
     sum = (sum & 0xFFFF) + (sum >> 16);
     frame[24..26].copy_from_slice(&(!(sum as u16)).to_be_bytes());
+    frame
+}
+
+#[test]
+fn the_forwarder_sends_on() {
+    let mut machine = loaded(&sample("ipv4_forward"), 9, slab(4));
+    let frame = ipv4_frame();
     machine.arrive(&frame).unwrap();
     assert!(run_until_still(&mut machine) > 50);
     let mut buffer = vec![0; frame.len()];
@@ -488,29 +499,277 @@ fn lively_programs_are_accepted() {
     }
 }
 
+// ---- machines side by side ----
+
+/// The machine by its rules and the one that reads bytes stand alike.
+fn stand_alike(case: &str, plain: &Machine, bytewise: &mut Bytewise) {
+    let running = plain.running.as_ref().unwrap();
+    for (thread, frames) in (1..).zip(&running.threads) {
+        let frame = |frame: &Frame| {
+            (frame.function, running.code.places[frame.node], frame.variables.clone())
+        };
+        let frames: Vec<_> = frames.iter().map(frame).collect();
+        assert_eq!(frames, bytewise.frames(thread), "{case}, thread {thread}");
+    }
+    let outside = bytewise.outside();
+    for (number, queue) in running.queues.iter().enumerate() {
+        assert_eq!(*queue, outside.queue(number), "{case}, queue {number}");
+    }
+    assert_eq!(running.counts, outside.counts()[..running.counts.len()], "{case}");
+    assert_eq!(plain.store.packets, outside.packets(), "{case}");
+}
+
+/// All machines with one program; whatever is asked of them they answer alike.
+struct Sides {
+    /// For the message, should they not.
+    case: String,
+    plain: Machine,
+    fast: Fast,
+    bytewise: Bytewise,
+}
+
+impl Sides {
+    fn new(case: String, program: &[u8], limit: u32, slots: usize) -> Sides {
+        Sides {
+            case,
+            plain: loaded(program, limit, slab(slots as u64)),
+            fast: Fast::load(program, limit, slots).unwrap(),
+            bytewise: Bytewise::load(program, limit, slots).unwrap(),
+        }
+    }
+
+    fn arrive(&mut self, packet: &[u8]) {
+        let granted = self.plain.arrive(packet).is_ok();
+        assert_eq!(self.fast.outside().arrive(packet).is_some(), granted, "fast, {}", self.case);
+        let also = self.bytewise.outside().arrive(packet).is_some();
+        assert_eq!(also, granted, "bytewise, {}", self.case);
+    }
+
+    fn step(&mut self, thread: usize) -> Outcome {
+        let outcome = self.plain.step(thread as u64).unwrap();
+        assert_eq!(self.fast.step(thread), outcome, "fast, {}", self.case);
+        assert_eq!(self.bytewise.step(thread), outcome, "bytewise, {}", self.case);
+        outcome
+    }
+
+    /// So many steps, of each thread in turn, with arrivals between them; how often each
+    /// outcome came.
+    fn run(&mut self, rng: &mut Rng, steps: usize, packet: impl Fn(&mut Rng) -> Vec<u8>) -> Counts {
+        let mut counts = Counts::new();
+        assert_eq!(self.fast.threads(), self.bytewise.threads());
+        for i in 0..steps {
+            if rng.percent(8) {
+                self.arrive(&packet(rng));
+            }
+            let outcome = self.step(1 + i % self.fast.threads());
+            *counts.entry(format!("{outcome:?}")).or_default() += 1;
+        }
+        assert_eq!(self.plain.store.packets, self.fast.outside().packets(), "{}", self.case);
+        stand_alike(&self.case, &self.plain, &mut self.bytewise);
+        counts
+    }
+}
+
+type Counts = BTreeMap<String, u64>;
+
+fn some_packet(rng: &mut Rng) -> Vec<u8> {
+    (0..rng.below(20)).map(|_| rng.below(10) as u8).collect()
+}
+
 #[test]
-fn fast_and_plain_agree() {
-    let mut advances = 0;
+fn machines_agree() {
+    let mut sums = Counts::new();
     for number in 0..1000 {
         let rng = &mut Rng::for_case(22, number);
         let program = lively(rng);
         let slots = rng.from_to(0, 30);
         let limit = rng.pick(&[1, 2, 30, 4000]);
-        let mut plain = loaded(&program, limit, slab(slots as u64));
-        let mut fast = Fast::load(&program, limit, slots).unwrap();
-        for i in 0..600 {
-            if rng.percent(8) {
-                let packet: Vec<u8> = (0..rng.below(20)).map(|_| rng.below(10) as u8).collect();
-                assert_eq!(plain.arrive(&packet).is_ok(), fast.arrive(&packet).is_some());
-            }
-            let thread = 1 + i % fast.threads();
-            let outcome = fast.step(thread);
-            assert_eq!(plain.step(thread as u64), Ok(outcome), "case {number}, step {i}");
-            advances += usize::from(outcome == Outcome::Advanced);
+        let mut sides = Sides::new(format!("case {number}"), &program, limit, slots);
+        for (outcome, count) in sides.run(rng, 600, some_packet) {
+            *sums.entry(outcome).or_default() += count;
         }
-        assert_eq!(plain.store.packets, fast.packets(), "case {number}");
     }
-    assert!(advances > 50_000, "{advances}");
+    assert!(sums["Advanced"] > 50_000, "{sums:?}");
+    for outcome in ["Waits(1)", "Waits(2)", "Waits(3)", "Waits(4)", "Ended"] {
+        assert!(sums[outcome] > 1000, "{outcome}: {sums:?}");
+    }
+}
+
+#[test]
+fn machines_agree_on_samples() {
+    let known: Vec<Vec<u8>> =
+        DOOR.iter().map(|(arrives, _)| bytes(arrives)).chain([ipv4_frame()]).collect();
+    // The smallest of them ends after five steps, whatever arrives.
+    for (name, least) in [
+        ("busy", 10_000),
+        ("door_lock", 10_000),
+        ("ipv4_forward", 10_000),
+        ("sums", 10_000),
+        ("two_bytes", 200),
+    ] {
+        let mut advances = 0;
+        for number in 0..40 {
+            let rng = &mut Rng::for_case(23, number);
+            let slots = rng.from_to(0, 64);
+            let limit = rng.pick(&[1, 30, u32::MAX]);
+            let packet = |rng: &mut Rng| {
+                if rng.percent(75) { known[rng.below(known.len())].clone() } else { some_packet(rng) }
+            };
+            let case = format!("{name}, case {number}");
+            let counts = Sides::new(case, &sample(name), limit, slots).run(rng, 2000, packet);
+            advances += counts.get("Advanced").copied().unwrap_or(0);
+        }
+        assert!(advances >= least, "{name}: {advances}");
+    }
+}
+
+/// Machines that have a program which reads, though its types, counts and names may be wrong.
+fn unchecked(program: &[u8], limit: u32, slots: usize) -> Option<(Machine, Bytewise)> {
+    let bytewise = Bytewise::unchecked(program, limit, slots).ok()?;
+    let code = Code::new(&read(program).ok()?);
+    let frame = |function: usize| {
+        let node = code.functions[function].body;
+        vec![Frame { function, node, variables: Vec::new() }]
+    };
+    let mut plain = Machine::new(slab(slots as u64));
+    plain.running = Some(Running {
+        threads: (0..usize::from(code.threads)).map(frame).collect(),
+        queues: vec![VecDeque::new(); 2 + usize::from(code.queues)],
+        counts: vec![0; 1 + usize::from(code.threads)],
+        limit,
+        code,
+    });
+    Some((plain, bytewise))
+}
+
+/// What no granted load lets happen: a step that is stuck, which must alter nothing.
+#[test]
+fn machines_are_stuck_alike() {
+    let mut stuck = Counts::new();
+    for number in 0..4000 {
+        let rng = &mut Rng::for_case(24, number);
+        let good = read(&lively(rng)).unwrap();
+        let program = mutated(rng, good);
+        let slots = rng.from_to(0, 10);
+        let Some((mut plain, mut bytewise)) = unchecked(&program, 30, slots) else {
+            continue;
+        };
+        for i in 0..200 {
+            if rng.percent(8) {
+                let packet = some_packet(rng);
+                let granted = plain.arrive(&packet).is_ok();
+                assert_eq!(bytewise.outside().arrive(&packet).is_some(), granted);
+            }
+            let thread = 1 + i % bytewise.threads();
+            let outcome = bytewise.step(thread);
+            let case = format!("case {number}, step {i}");
+            assert_eq!(plain.step(thread as u64), Ok(outcome), "{case}");
+            if outcome == Outcome::Stuck {
+                // It stays so; other threads need not be looked at any more.
+                stand_alike(&case, &plain, &mut bytewise);
+                *stuck.entry(kind_of(&plain, thread)).or_default() += 1;
+                break;
+            }
+        }
+    }
+    for kind in ["return", "if", "0", "1", "2", "3", "4", "5", "6", "7"] {
+        assert!(stuck.get(kind).is_some_and(|&n| n >= 5), "{kind}: {stuck:?}");
+    }
+}
+
+/// What the thread's node is: a return, an if, or a call of some kind.
+fn kind_of(machine: &Machine, thread: usize) -> String {
+    match machine.node(thread) {
+        Some(Node::Return { .. }) => "return".to_string(),
+        Some(Node::If { .. }) => "if".to_string(),
+        Some(Node::Call { call, .. }) => call.kind.to_string(),
+        None => "none".to_string(),
+    }
+}
+
+/// A node that is wrong in one thing alone, after an add and a new.
+#[test]
+fn wrong_nodes_are_stuck() {
+    let before = "03 00 00 02 10 00000001 10 00000002 01  03 03 00 01 10 00000001 01";
+    for node in [
+        "03 00 06 02 12 00 12 00 01", // no such operation
+        "03 01 02 02 12 00 12 00 01",
+        "03 02 02 02 11 00 11 00 01",
+        "03 03 04 01 12 01 00",
+        "03 07 00 00 00",
+        "03 04 00 01 12 01 00", // an enq on receive, a deq of transmit, queues beyond the last
+        "03 05 01 00 01",
+        "03 04 03 01 12 01 00",
+        "03 05 03 00 01",
+        "03 06 02 00 00", // no such function
+        "03 00 00 01 12 00 01", // too few arguments or too many
+        "03 00 00 03 12 00 12 00 12 00 01",
+        "03 01 01 03 12 00 12 00 12 00 01",
+        "03 02 01 03 11 00 11 00 11 00 01",
+        "03 03 00 02 12 00 12 00 01",
+        "03 03 01 02 12 01 12 00 00",
+        "03 03 03 04 12 01 12 00 12 00 12 00 00",
+        "03 03 01 00 00",
+        "03 04 02 02 12 01 12 00 00",
+        "03 06 01 00 01",
+        "03 03 00 01 12 01 01", // wrong types
+        "03 03 01 01 12 00 00",
+        "03 03 02 02 12 00 12 00 01",
+        "03 03 02 02 12 01 11 00 01",
+        "03 02 01 02 11 01 12 00 01",
+        "03 06 01 01 12 00 01",
+        "02 12 00 00 02 01 00",
+        "03 03 02 02 12 02 12 00 01", // a variable not bound
+    ] {
+        let body = format!("01 00 00 {before} {node} 01 00");
+        let program = program(1, 1, &[&body, "00 01 03 01 01 03 03 01 01 12 00 00 01 01 12 00"]);
+        let (mut plain, mut bytewise) = unchecked(&program, 9, 9).unwrap();
+        for wanted in [Outcome::Advanced, Outcome::Advanced, Outcome::Stuck, Outcome::Stuck] {
+            assert_eq!((plain.step(1), bytewise.step(1)), (Ok(wanted), wanted), "{node}");
+            stand_alike(node, &plain, &mut bytewise);
+        }
+    }
+}
+
+/// A return of a constant is not the end of a tail call, though the constant's byte is the
+/// number of the variable that the call's result would be.
+#[test]
+fn a_constant_ends_no_tail_call() {
+    let thread = "02 00 00 03 06 01 00 01 01 00";
+    let calls = "01 00 01 02 03 00 00 02 10 00000001 10 00000002 01 03 06 02 00 01 01 01 11 01";
+    let program = program(1, 0, &[thread, calls, "00 00 01 02 01 01 11 00"]);
+    let mut sides = Sides::new("a constant".to_string(), &program, 1, 1);
+    for _ in 0..6 {
+        assert_eq!(sides.step(1), Outcome::Advanced);
+    }
+    assert_eq!(sides.step(1), Outcome::Ended);
+}
+
+/// A result that would be the seventeenth variable: the step is stuck, and makes no packet,
+/// takes none and binds nothing.
+#[test]
+fn no_place_for_a_result() {
+    let adds = "03 00 00 02 10 00000001 10 00000002 01".repeat(16);
+    for last in [
+        "03 00 00 02 10 00000001 10 00000002 01",
+        "03 03 00 01 10 00000001 01",
+        "03 05 00 00 01",
+        "03 06 01 00 01",
+    ] {
+        let body = format!("01 00 00 {adds} {last} 01 00");
+        let program = program(1, 0, &[&body, "00 00 01 01 01 01 10 00000001"]);
+        let (mut plain, mut bytewise) = unchecked(&program, 1, 2).unwrap();
+        plain.arrive(&[7]).unwrap();
+        bytewise.outside().arrive(&[7]).unwrap();
+        let calls = usize::from(last.starts_with("03 06"));
+        for _ in 0..16 + calls {
+            assert_eq!(plain.step(1), Ok(bytewise.step(1)));
+        }
+        for _ in 0..2 {
+            assert_eq!(bytewise.step(1), Outcome::Stuck, "{last}");
+            stand_alike(last, &plain, &mut bytewise);
+        }
+    }
 }
 
 #[test]
