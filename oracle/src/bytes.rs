@@ -315,10 +315,7 @@ impl Bytewise {
 
     #[inline]
     pub fn step(&mut self, thread: usize) -> Outcome {
-        match self.advance(thread) {
-            Ok(()) => Outcome::Advanced,
-            Err(outcome) => outcome,
-        }
+        self.advance(thread).err().unwrap_or(Outcome::Advanced)
     }
 
     #[inline]

@@ -293,10 +293,7 @@ impl Fast {
 
     #[inline]
     pub fn step(&mut self, thread: usize) -> Outcome {
-        match self.advance(thread) {
-            Ok(()) => Outcome::Advanced,
-            Err(outcome) => outcome,
-        }
+        self.advance(thread).err().unwrap_or(Outcome::Advanced)
     }
 
     #[inline]
