@@ -205,6 +205,6 @@ impl<'a> Lent for Cells<'a> {
     fn need(size: usize) -> usize
         ensures { result ≡ chain_need size }
     {
-        size.div_ceil(CELL).max(1)
+        size.saturating_sub(1) / CELL + 1
     }
 }
