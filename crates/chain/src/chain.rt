@@ -6,7 +6,7 @@ ghost use Rattle.store.specs.Packets.{empty};
 
 use crate::cells::{CELL, Cells};
 use crate::head::Head;
-use store::{LentStore, Store};
+use store::{Kind, LentStore, Store};
 
 /// The store of kind 2: packets of at most 1,024 bytes in cells of lent memory.
 pub type Chain<'a> = LentStore<Cells<'a>, 2>;
@@ -17,7 +17,7 @@ pub fn chain_over<'a>(
     links: &'a mut [usize],
     heads: &'a mut [Head],
 ) -> Chain<'a>
-    ensures kind { ⟦<Chain<'a> as Store>⟧.KIND ≡ 2 }
+    ensures kind { ⟦<<Chain<'a> as Store>::Kind as Kind>⟧.KIND ≡ 2 }
     ensures packets { (⟦<Chain<'a> as Store>⟧.meaning result).packets ≡ empty }
     ensures largest { (⟦<Chain<'a> as Store>⟧.meaning result).largest ≡ 1024 }
     ensures capacity { (⟦<Chain<'a> as Store>⟧.meaning result).capacity ≡ min (min (length heads.old) (length links.old)) (length memory.old / 32) }

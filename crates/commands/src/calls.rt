@@ -58,7 +58,7 @@ impl Call {
 
     /// Makes the call.
     pub(crate) fn run_on<S: Store>(self, store: &mut S) -> Answer
-        ensures answer { result ≡ call_answer S.KIND (S.meaning store.old) self }
+        ensures answer { result ≡ call_answer S.Kind.KIND (S.meaning store.old) self }
         ensures after { S.meaning store.new ≡ call_after (S.meaning store.old) self }
     {
         match self {

@@ -111,7 +111,7 @@ impl<S: Store> Desk<S> {
 
     /// Makes a call, and keeps the list of names up to date.
     fn call(&mut self, call: Call) -> Result<Answer, AllocError>
-        ensures answer { IfOk result (λ answer. answer ≡ call_answer S.KIND (S.meaning self.old.store) call) }
+        ensures answer { IfOk result (λ answer. answer ≡ call_answer S.Kind.KIND (S.meaning self.old.store) call) }
         ensures after { S.meaning self.new.store ≡ call_after (S.meaning self.old.store) call }
     {
         let answer = call.run_on(&mut self.store);

@@ -7,7 +7,7 @@ ghost use Rattle.store.specs.Blocks.{zeroed};
 ghost use Rattle.store.specs.Rows.{row_at};
 
 use crate::slot::Slot;
-use store::{Label, Lent, LentStore, Name, Store, clear, find};
+use store::{Kind, Label, Lent, LentStore, Name, Store, clear, find};
 
 /// The bytes of a slot.
 const SLOT: usize = 256;
@@ -26,7 +26,7 @@ pub type Slab<'a> = LentStore<Slots<'a>, 1>;
 /// A slab over any memory and table, with nothing in it. What does not make a whole slot with a record of its own is left alone.
 pub fn slab_over<'a>(memory: &'a mut [u8], slots: &'a mut [Slot]) -> Slab<'a>
     ensures meaning { ⟦<Slab<'a> as Store>⟧.meaning result ≡ empty_slab (min (length slots.old) (length memory.old / 256)) }
-    ensures kind { ⟦<Slab<'a> as Store>⟧.KIND ≡ 1 }
+    ensures kind { ⟦<<Slab<'a> as Store>::Kind as Kind>⟧.KIND ≡ 1 }
 {
     let count = slots.len().min(memory.len() / SLOT);
     let memory = &mut memory[..SLOT * count];

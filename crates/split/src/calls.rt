@@ -6,12 +6,10 @@ ghost use Rattle.store.specs.Meaning.{make_answer, make_after, discard_answer, d
 
 use crate::carry::transfer;
 use crate::split::{Place, Split};
-use store::{Handed, Name, Question, Store};
+use store::{Handed, KindOf, Name, Question, Store};
 
 impl<N: Store, F: Store> Store for Split<N, F> {
-    const KIND: u8 = 3;
-
-    ghost KIND = { 3 };
+    type Kind = KindOf<3>;
 
     ghost meaning = { λ s. split_meaning (N.meaning s.near) (F.meaning s.far) s.clean };
 

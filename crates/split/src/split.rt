@@ -5,7 +5,7 @@ ghost use Rattle.split.specs.Splits.{split_meaning, new_split, Stands};
 ghost use Rattle.std.proofs.Props.{props};
 ghost use Rattle.split.specs.Places.{Placed};
 
-use store::{Name, Question, Store};
+use store::{Kind, Name, Question, Store};
 
 /// Packets of holders up to a bound lie in the near store, others in the far one.
 #[derive(Drop)]
@@ -30,6 +30,7 @@ pub(crate) enum Place {
 impl<N: Store, F: Store> Split<N, F> {
     /// A split with nothing in it. Over a store in use it takes no packet, and the packets below are not its own.
     pub fn new(near: N, far: F, bound: u8) -> Split<N, F>
+        ensures kind { ⟦<<Split<N, F> as Store>::Kind as Kind>⟧.KIND ≡ 3 }
         ensures meaning { ⟦<Split<N, F> as Store>⟧.meaning result ≡ new_split (N.meaning near) (F.meaning far) }
         ensures bound { result.bound ≡ bound }
     {

@@ -4,6 +4,7 @@ ghost use Rattle.std.specs.Prelude.{◌≡◌, true, length};
 ghost use Rattle.store.specs.Rows.{Placed, Reached, distinct, meaning_of};
 
 use crate::denial::{Handed, Question};
+use crate::kind::{Kind, KindOf};
 use crate::lent::Lent;
 use crate::name::Name;
 use crate::store::Store;
@@ -21,7 +22,8 @@ impl<L: Lent, const K: u8> LentStore<L, K> {
     pub fn over(lent: L) -> LentStore<L, K>
         requires sound { L.sound lent }
         requires apart { distinct (L.rows lent) ≡ true }
-        ensures { ⟦<LentStore<L, K> as Store>⟧.meaning result ≡ meaning_of (L.rows lent) L.largest (length (L.rows lent)) L.need }
+        ensures kind { ⟦<<LentStore<L, K> as Store>::Kind as Kind>⟧.KIND ≡ K }
+        ensures meaning { ⟦<LentStore<L, K> as Store>⟧.meaning result ≡ meaning_of (L.rows lent) L.largest (length (L.rows lent)) L.need }
     {
         LentStore { lent }
     }
@@ -46,9 +48,7 @@ impl<L: Lent, const K: u8> LentStore<L, K> {
 }
 
 impl<L: Lent, const K: u8> Store for LentStore<L, K> {
-    const KIND: u8 = K;
-
-    ghost KIND = { K };
+    type Kind = KindOf<K>;
 
     ghost meaning = { λ s. meaning_of (L.rows s.lent) L.largest (length (L.rows s.lent)) L.need };
 

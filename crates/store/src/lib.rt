@@ -4,6 +4,7 @@
 
 pub mod calls;
 pub mod denial;
+pub mod kind;
 pub mod label;
 pub mod lent;
 pub mod lent_store;
@@ -13,6 +14,7 @@ pub mod store;
 pub mod zeros;
 
 pub use denial::{Denial, Handed, Question};
+pub use kind::{Kind, KindOf};
 pub use label::Label;
 pub use lent::Lent;
 pub use lent_store::LentStore;

@@ -4,15 +4,13 @@ ghost use Rattle.std.specs.Prelude.{◌≡◌, ℕ, ◌≤◌};
 ghost use Rattle.store.specs.Meaning.{Meaning, units, make_answer, make_after, discard_answer, discard_after, write_answer, write_after, hand_answer, hand_after, size_answer, holder_answer, read_answer};
 
 use crate::denial::{Handed, Question};
+use crate::kind::Kind;
 use crate::name::Name;
 
 /// A store of packets. Its meaning is a map from names to packets, a largest size, a capacity in units and a need for each size.
 pub trait Store {
-    /// The number of the store's kind, which each denial carries.
-    // A number and no enum, as in a denial.
-    const KIND: u8;
-
-    ghost KIND: { ℕ };
+    /// The kind of the store, which has a number.
+    type Kind: Kind;
 
     ghost meaning: { Self → Meaning };
 

@@ -3,7 +3,11 @@
 #![tactic(auto)]
 
 #[cfg(test)]
+mod renamed;
+
+#[cfg(test)]
 mod tests {
+    use crate::renamed::Renamed;
     use chain::{Head, chain_over};
     use slab_store::{Slot, slab_over};
     use split::Split;
@@ -68,6 +72,33 @@ mod tests {
             calls::make(&mut store, name, 5).map_err(numbers),
             Err((3, 62))
         );
+        Ok(())
+    }
+
+    // A store with a kind of its own and a lifetime parameter, alone and in a split.
+    #[test]
+    fn a_store_of_another_kind(rt: HostRuntime) -> Result<(), Fail> {
+        let mut first = [5u8; 256];
+        let mut first_slots = [Slot::free(); 1];
+        let mut second = [6u8; 512];
+        let mut second_slots = [Slot::free(); 2];
+        let mut near = Renamed {
+            slab: slab_over(&mut first, &mut first_slots),
+        };
+        let name = Name { maker: 2, count: 1 };
+        assert_eq!(rt; calls::size(&near, name).map_err(numbers), Err((9, 63)));
+        assert!(rt; calls::make(&mut near, name, 3).is_ok());
+        assert_eq!(rt; near.read(name, 2), Ok(0));
+        assert_eq!(rt;
+            calls::make(&mut near, name, 3).map_err(numbers),
+            Err((9, 60))
+        );
+        assert!(rt; calls::discard(&mut near, name).is_ok());
+        let mut store = Split::new(near, slab_over(&mut second, &mut second_slots), 1);
+        assert!(rt; calls::make(&mut store, name, 3).is_ok());
+        assert!(rt; calls::hand(&mut store, name, 0).is_ok());
+        assert_eq!(rt; store.size(name), Ok(3));
+        assert_eq!(rt; calls::read(&store, name, 3).map_err(numbers), Err((3, 64)));
         Ok(())
     }
 }

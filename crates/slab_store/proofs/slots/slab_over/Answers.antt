@@ -20,6 +20,6 @@ pub returns-clause-meaning : goal.returns-clause-meaning
 returns-clause-meaning c =
     let m = c.min-count.ensures in
     let n : c.min-count.result ≤ length c.args.slots.now = omega arith in
-    c.over.ensures
+    c.over.ensures.meaning
     ∙ meaning_free c.fill.new.self _ c.free.result (take (256 * c.min-count.result) c.args.memory.now) c.free.ensures (c.fill.ensures.after (λ y k. k)) _
     (c.fill.ensures.len ∙ length-take-le c.min-count.result c.args.slots.now n ∙ m)
