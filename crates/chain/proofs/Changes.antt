@@ -107,7 +107,7 @@ module _ (l : Cells) where
     -- ---- fill: the first k spare cells go to a place without a packet
     module _ (free_at : kept ≡ None) (k size : ℕ) (is : k ≡ chain_need size) (le : k ≤ spare) (n : Name) (behind : ℕ) (to : behind ≡ nth_cell links free k) (changed : List ℕ) (w : Wiped links free k memory changed) where
       abbrev new : Head
-      new = record { packet = Some (record { label = record { name = n; holder = n.maker; size = size }; first = free }) }
+      new = record { packet = Some (record { name = n; holder = n.maker; size = size; first = free }) }
 
       parted : (c : ℕ) → count c (cells links free spare) ≡ count c (cells links free k) + count c (cells links (nth_cell links free k) (spare - k))
       parted c = ap (count c) (cells_add links free k (spare - k) spare (omega arith)) ∙ count-append c (cells links free k) (cells links (nth_cell links free k) (spare - k))
@@ -150,7 +150,7 @@ module _ (l : Cells) where
     -- ---- a place with a packet
     module _ (s : Stored) (at : kept ≡ Some s) where
       abbrev own : List ℕ
-      own = cells links s.first (chain_need s.label.size)
+      own = cells links s.first (chain_need s.size)
 
       count-own : (c : ℕ) → count c (cells_of links kept) ≡ count c own
       count-own c = ap (λ (o : Option Stored). count c (cells_of links o)) at
@@ -171,21 +171,21 @@ module _ (l : Cells) where
           let y = count-own c in
           omega arith
 
-      own-inside : (q : ℕ) → q < chain_need s.label.size → nth_cell links s.first q < length hs
+      own-inside : (q : ℕ) → q < chain_need s.size → nth_cell links s.first q < length hs
       own-inside q h =
-          let g = count-nth links s.first q (chain_need s.label.size) h in inside _ (length hs) (count (nth_cell links s.first q) own) g (own-within (nth_cell links s.first q))
+          let g = count-nth links s.first q (chain_need s.size) h in inside _ (length hs) (count (nth_cell links s.first q) own) g (own-within (nth_cell links s.first q))
 
-      row_is : (m : List ℕ) → head_row links m kept ≡ row_of s.label.name (packet s.label.holder (chain_bytes links m s.first s.label.size))
+      row_is : (m : List ℕ) → head_row links m kept ≡ row_of s.name (packet s.holder (chain_bytes links m s.first s.size))
       row_is m = ap (head_row links m) at
 
-      pub row_size : s.label.size ≡ length (row_at (rows l) i).packet.bytes
+      pub row_size : s.size ≡ length (row_at (rows l) i).packet.bytes
       row_size =
-          sym (ap (λ (r : Row). length r.packet.bytes) (at_row links memory hs i ∙ row_is memory) ∙ length-chain links memory (length hs) ok.bytes s.first s.label.size own-within)
+          sym (ap (λ (r : Row). length r.packet.bytes) (at_row links memory hs i ∙ row_is memory) ∙ length-chain links memory (length hs) ok.bytes s.first s.size own-within)
 
       -- ---- hand
       module _ (holder : ℕ) where
         abbrev handed : Head
-        handed = record { packet = Some (record { label = record { name = s.label.name; holder = holder; size = s.label.size }; first = s.first }) }
+        handed = record { packet = Some (record { name = s.name; holder = holder; size = s.size; first = s.first }) }
 
         pub hand_linked : Linked (set hs i handed) links memory free spare
         hand_linked =
@@ -194,7 +194,7 @@ module _ (l : Cells) where
             let j = ok.joins in
             let u = ok.units in
             let m = needs-at handed in
-            let z : need_if kept ≡ chain_need s.label.size = ap need_if at in
+            let z : need_if kept ≡ chain_need s.size = ap need_if at in
             record {
               bytes = omega arith;
               joins = omega arith;
@@ -211,9 +211,9 @@ module _ (l : Cells) where
         hand_rows = rows-at links memory handed ∙ ap (λ (r : Row). set (rows l) i (with_packet (with_holder holder) r)) (sym (at_row links memory hs i ∙ row_is memory))
 
       -- ---- release: the cells of the packet go before the spare ones, by the link of the last
-      module _ (k : ℕ) (is : k ≡ chain_need s.label.size) (last : ℕ) (to : last ≡ nth_cell links s.first (k - 1)) where
+      module _ (k : ℕ) (is : k ≡ chain_need s.size) (last : ℕ) (to : last ≡ nth_cell links s.first (k - 1)) where
         least : 1 ≤ k
-        least = let g = need-least s.label.size in omega arith
+        least = let g = need-least s.size in omega arith
 
         last_own : nth_cell links s.first (k - 1) < length hs
         last_own = let g = least in own-inside (k - 1) (omega arith)
@@ -224,7 +224,7 @@ module _ (l : Cells) where
             let j = ok.joins in
             let u = ok.units in
             let m = needs-at no_head in
-            let z : need_if kept ≡ chain_need s.label.size = ap need_if at in
+            let z : need_if kept ≡ chain_need s.size = ap need_if at in
             (omega arith, omega arith)
 
         front : count (nth_cell links s.first (k - 1)) (cells links s.first (k - 1)) ≡ 0
@@ -233,12 +233,12 @@ module _ (l : Cells) where
             let g = least in
             let w = own-within p in
             let m = within-most p (length hs) in
-            let d = ap (count p) (cells_add links s.first (k - 1) 1 (chain_need s.label.size) (omega arith)) ∙ count-append p (cells links s.first (k - 1)) (cells links (nth_cell links s.first (k - 1)) 1) in
+            let d = ap (count p) (cells_add links s.first (k - 1) 1 (chain_need s.size) (omega arith)) ∙ count-append p (cells links s.first (k - 1)) (cells links (nth_cell links s.first (k - 1)) 1) in
             let h = hit_same p p refl in
             omega arith
 
         apart : (counts (nth_cell links s.first (k - 1)) (set hs i no_head) links ≡ 0) × (count (nth_cell links s.first (k - 1)) (cells links free spare) ≡ 0)
-        apart = let g = least in alone (nth_cell links s.first (k - 1)) (count-nth links s.first (k - 1) (chain_need s.label.size) (omega arith))
+        apart = let g = least in alone (nth_cell links s.first (k - 1)) (count-nth links s.first (k - 1) (chain_need s.size) (omega arith))
 
         linked : Linked (set hs i no_head) (set links (nth_cell links s.first (k - 1)) free) memory s.first (spare + k)
         linked =
@@ -249,13 +249,13 @@ module _ (l : Cells) where
             let j = ok.joins in
             let u = ok.units in
             let m = needs-at no_head in
-            let z : need_if kept ≡ chain_need s.label.size = ap need_if at in
+            let z : need_if kept ≡ chain_need s.size = ap need_if at in
             let f = apart in
             let f0 = f.0 in
             let j' = length-set links p free in
             let pl : p < length links = (let a = last_own in omega arith) in
             let sp = cells_splice links s.first (k - 1) free spare (spare + k) (omega arith) pl front f.1 in
-            let sk : k - 1 + 1 ≡ chain_need s.label.size = omega arith in
+            let sk : k - 1 + 1 ≡ chain_need s.size = omega arith in
             record {
               bytes = omega arith;
               joins = omega arith;
@@ -282,10 +282,10 @@ module _ (l : Cells) where
 
       -- ---- put and byte: an offset of the packet
       module _ (off : ℕ) (inside_at : off < length (row_at (rows l) i).packet.bytes) where
-        reach : off < s.label.size
+        reach : off < s.size
         reach = let r = row_size in omega arith
 
-        near : off / 32 < chain_need s.label.size
+        near : off / 32 < chain_need s.size
         near = let r = reach in omega arith
 
         abbrev spot : ℕ
@@ -304,10 +304,10 @@ module _ (l : Cells) where
         low = omega arith
 
         module _ (b : ℕ) where
-          bytes-put : chain_bytes links (set memory spot b) s.first s.label.size ≡ set (chain_bytes links memory s.first s.label.size) off b
+          bytes-put : chain_bytes links (set memory spot b) s.first s.size ≡ set (chain_bytes links memory s.first s.size) off b
           bytes-put =
-              ap (take s.label.size) (joined-put memory (length hs) ok.bytes links s.first (chain_need s.label.size) (off / 32) (off % 32) b own-within near low ∙ ap (λ (x : ℕ). set (joined memory own) x b) parts)
-              ∙ take-set-lt s.label.size (joined memory own) off b reach
+              ap (take s.size) (joined-put memory (length hs) ok.bytes links s.first (chain_need s.size) (off / 32) (off % 32) b own-within near low ∙ ap (λ (x : ℕ). set (joined memory own) x b) parts)
+              ∙ take-set-lt s.size (joined memory own) off b reach
 
           pub put_linked : Linked hs links (set memory (spot_of links kept off) b) free spare
           put_linked = record { bytes = length-set memory (spot_of links kept off) b ∙ ok.bytes; joins = ok.joins; units = ok.units; once = ok.once }
@@ -315,13 +315,13 @@ module _ (l : Cells) where
           pub put-rows : chain_rows hs links (set memory (spot_of links kept off) b) ≡ set (rows l) i (with_packet (with_byte off b) (row_at (rows l) i))
           put-rows =
               let p = nth_cell links s.first (off / 32) in
-              let f = (alone p (count-nth links s.first (off / 32) (chain_need s.label.size) near)).0 in
+              let f = (alone p (count-nth links s.first (off / 32) (chain_need s.size) near)).0 in
               let others = rows_same (set hs i no_head) links memory (set memory spot b)
               (λ c h. others-set 32 p (off % 32) b memory low c (λ w. let u : counts c (set hs i no_head) links ≡ 0 = ap (λ (y : ℕ). counts y (set hs i no_head) links) w ∙ f in omega arith)) in
               let back : set (set hs i no_head) i (get_or hs i no_head) ≡ hs = set-set hs i no_head (get_or hs i no_head) ∙ set-get_or hs i no_head in
               let r : head_row links (set memory spot b) kept ≡ with_packet (with_byte off b) (row_at (rows l) i) =
               row_is (set memory spot b)
-              ∙ ap (λ (bs : List ℕ). row_of s.label.name (packet s.label.holder bs)) bytes-put
+              ∙ ap (λ (bs : List ℕ). row_of s.name (packet s.holder bs)) bytes-put
               ∙ ap (with_packet (with_byte off b)) (sym (at_row links memory hs i ∙ row_is memory)) in
               ap (λ (x : ℕ). chain_rows hs links (set memory x b)) spot_is
               ∙ ap (λ (l : List Head). chain_rows l links (set memory spot b)) (sym back)
@@ -334,6 +334,6 @@ module _ (l : Cells) where
         get_byte =
             ap (λ (x : ℕ). get_or memory x 0) spot_is
             ∙ sym (ap (λ (r : Row). get_or r.packet.bytes off 0) (at_row links memory hs i ∙ row_is memory)
-            ∙ get_or-take s.label.size (joined memory own) off 0 reach
+            ∙ get_or-take s.size (joined memory own) off 0 reach
             ∙ ap (λ (x : ℕ). get_or (joined memory own) x 0) (sym parts)
-            ∙ joined_get memory (length hs) ok.bytes links s.first (chain_need s.label.size) (off / 32) (off % 32) own-within near low)
+            ∙ joined_get memory (length hs) ok.bytes links s.first (chain_need s.size) (off / 32) (off % 32) own-within near low)

@@ -108,7 +108,7 @@ needs-cons h hs = sum_by-cons (λ (x : Head). need_if x.packet) h hs
 -- a link changes, at a cell of no head
 of_apart : (o : Option Stored) (links : List ℕ) (p v : ℕ) → count p (cells_of links o) ≡ 0 → cells_of (set links p v) o ≡ cells_of links o
 of_apart None links p v e = refl
-of_apart (Some s) links p v e = cells-apart links p v s.first (chain_need s.label.size) e
+of_apart (Some s) links p v e = cells-apart links p v s.first (chain_need s.size) e
 
 pub counts-apart : (c : ℕ) (hs : List Head) (links : List ℕ) (p v : ℕ) → counts p hs links ≡ 0 → counts c hs (set links p v) ≡ counts c hs links
 counts-apart c [] links p v e = refl
@@ -122,7 +122,7 @@ counts-apart c (h ∷ hs) links p v e =
 row_apart : (o : Option Stored) (links memory : List ℕ) (p v : ℕ) → count p (cells_of links o) ≡ 0 → head_row (set links p v) memory o ≡ head_row links memory o
 row_apart None links memory p v e = refl
 row_apart (Some s) links memory p v e =
-    ap (λ (cs : List ℕ). row_of s.label.name (packet s.label.holder (take s.label.size (joined memory cs)))) (cells-apart links p v s.first (chain_need s.label.size) e)
+    ap (λ (cs : List ℕ). row_of s.name (packet s.holder (take s.size (joined memory cs)))) (cells-apart links p v s.first (chain_need s.size) e)
 
 pub rows_apart : (hs : List Head) (links memory : List ℕ) (p v : ℕ) → counts p hs links ≡ 0 → chain_rows hs (set links p v) memory ≡ chain_rows hs links memory
 rows_apart [] links memory p v e = refl
@@ -144,7 +144,7 @@ row_same : (o : Option Stored) (links memory changed : List ℕ) → ((c : ℕ) 
     → head_row links changed o ≡ head_row links memory o
 row_same None links memory changed same = refl
 row_same (Some s) links memory changed same =
-    ap (λ (bs : List ℕ). row_of s.label.name (packet s.label.holder (take s.label.size bs))) (joined_same memory changed (cells links s.first (chain_need s.label.size)) same)
+    ap (λ (bs : List ℕ). row_of s.name (packet s.holder (take s.size bs))) (joined_same memory changed (cells links s.first (chain_need s.size)) same)
 
 pub rows_same : (hs : List Head) (links memory changed : List ℕ) → ((c : ℕ) → 1 ≤ counts c hs links → cell_bytes c changed ≡ cell_bytes c memory)
     → chain_rows hs links changed ≡ chain_rows hs links memory

@@ -80,7 +80,7 @@ module _ (links memory : List ℕ) where
 
     need-row : (o : Option Stored) → ((c : ℕ) → count c (cells_of links o) ≤ within c n) → need_in chain_need (head_row links memory o) (head_row links memory o).named ≡ need_if o
     need-row None w = refl
-    need-row (Some s) w = ap chain_need (length-chain s.first s.label.size w)
+    need-row (Some s) w = ap chain_need (length-chain s.first s.size w)
 
     pub total-needs : (hs : List Head) → ((c : ℕ) → counts c hs links ≤ within c n) → total chain_need (chain_rows hs links memory) ≡ needs_of hs
     total-needs [] w = refl
@@ -98,7 +98,7 @@ needs_full (h ∷ hs) e = go h.packet e (λ z. needs_full hs z) (needs-cons h hs
     go : (o : Option Stored) → cond (alike (name_of o) None) (Some 0) (next (position (λ h. name_of h.packet) None hs)) ≡ None
         → (position (λ h. name_of h.packet) None hs ≡ None → length hs ≤ needs_of hs) → needs_of (h ∷ hs) ≡ need_if o + needs_of hs → suc (length hs) ≤ needs_of (h ∷ hs)
     go None e rest z = cc
-    go (Some s) e rest z = let r = rest (none_next _ e) in let g = need-least s.label.size in omega arith
+    go (Some s) e rest z = let r = rest (none_next _ e) in let g = need-least s.size in omega arith
 
 -- ---- the start
 module _ (links : List ℕ) (n : ℕ) (up : (k : ℕ) → k < n → get_or links k 0 ≡ k + 1) where

@@ -16,7 +16,7 @@ chain_bytes links memory first size = take size (joined memory (cells links firs
 
 abbrev pub head_row : List ℕ → List ℕ → Option Stored → Row
 head_row links memory None = blank
-head_row links memory (Some s) = row_of s.label.name (packet s.label.holder (chain_bytes links memory s.first s.label.size))
+head_row links memory (Some s) = row_of s.name (packet s.holder (chain_bytes links memory s.first s.size))
 
 abbrev pub chain_rows : List Head → List ℕ → List ℕ → List Row
 chain_rows hs links memory = map (λ h. head_row links memory h.packet) hs
@@ -29,7 +29,7 @@ spot_of links (Some s) offset = 32 * nth_cell links s.first (offset / 32) + offs
 -- the cells of one head, and how often c stands in the cells of all heads
 abbrev pub cells_of : List ℕ → Option Stored → List ℕ
 cells_of links None = []
-cells_of links (Some s) = cells links s.first (chain_need s.label.size)
+cells_of links (Some s) = cells links s.first (chain_need s.size)
 
 abbrev pub counts : ℕ → List Head → List ℕ → ℕ
 counts c hs links = sum_by (λ h. count c (cells_of links h.packet)) hs
@@ -37,7 +37,7 @@ counts c hs links = sum_by (λ h. count c (cells_of links h.packet)) hs
 -- the sum of the needs of all heads
 abbrev pub need_if : Option Stored → ℕ
 need_if None = 0
-need_if (Some s) = chain_need s.label.size
+need_if (Some s) = chain_need s.size
 
 abbrev pub needs_of : List Head → ℕ
 needs_of hs = sum_by (λ h. need_if h.packet) hs

@@ -10,4 +10,4 @@ abbrev pub no_head : Head
 no_head = record { packet = None }
 
 abbrev pub name_of : Option Stored → Option Name
-name_of o = option_map (λ s. s.label.name) o
+name_of o = option_map (λ s. s.name) o

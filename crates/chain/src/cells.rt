@@ -12,7 +12,7 @@ ghost use Rattle.store.specs.Rows.{distinct, gathered, row_at};
 
 use crate::head::{Head, Stored};
 use crate::links::cell_at;
-use store::{Label, Lent, Name, clear, find};
+use store::{Lent, Name, clear, find};
 
 // The bytes of a cell.
 pub(crate) const CELL: usize = 32;
@@ -136,21 +136,21 @@ impl<'a> Lent for Cells<'a> {
     // the packet takes the first of the spare cells
     fn fill(&mut self, place: usize, name: Name, size: usize) {
         let amount = Self::need(size);
-        let label = Label {
-            name,
-            holder: name.maker,
-            size,
-        };
         let first = self.free;
         self.free = self.wipe(first, amount);
         self.spare -= amount;
-        self.heads[place].packet = Some(Stored { label, first });
+        self.heads[place].packet = Some(Stored {
+            name,
+            holder: name.maker,
+            size: size as u16,
+            first,
+        });
     }
 
     // the packet's cells become the first of the spare ones
     fn release(&mut self, place: usize) {
         let stored = self.stored(place);
-        let amount = Self::need(stored.label.size);
+        let amount = Self::need(usize::from(stored.size));
         let last = self.cell(stored.first, amount - 1);
         self.links[last] = self.free;
         self.free = stored.first;
@@ -165,16 +165,16 @@ impl<'a> Lent for Cells<'a> {
 
     fn hand(&mut self, place: usize, holder: u8) {
         if let Some(stored) = &mut self.heads[place].packet {
-            stored.label.holder = holder;
+            stored.holder = holder;
         }
     }
 
     fn size(&self, place: usize) -> usize {
-        self.stored(place).label.size
+        usize::from(self.stored(place).size)
     }
 
     fn holder(&self, place: usize) -> u8 {
-        self.stored(place).label.holder
+        self.stored(place).holder
     }
 
     fn byte(&self, place: usize, offset: usize) -> u8 {
@@ -190,7 +190,7 @@ impl<'a> Lent for Cells<'a> {
         let mut sum = 0;
         for head in self.heads.iter() {
             if let Some(stored) = head.packet {
-                sum += Self::need(stored.label.size);
+                sum += Self::need(usize::from(stored.size));
             }
         }
         sum

@@ -3,12 +3,15 @@
 ghost use Rattle.std.specs.Prelude.{◌≡◌};
 ghost use Rattle.chain.specs.Heads.{name_of, no_head};
 
-use store::{Label, Name, Named};
+use store::{Name, Named};
 
-// What is kept of a packet: its label, and the number of its first cell.
+// What is kept of a packet: its name, who holds it, how many bytes it has, and the number of its first cell.
+// No `Label`, whose size is a word: a head would have 40 bytes in place of 32, and a search of many would walk them all.
 #[derive(Debug, Clone, Copy, PartialEq, Eq)]
 pub(crate) struct Stored {
-    pub(crate) label: Label,
+    pub(crate) name: Name,
+    pub(crate) holder: u8,
+    pub(crate) size: u16,
     pub(crate) first: usize,
 }
 
@@ -31,6 +34,6 @@ impl Named for Head {
     ghost named = { λ s. name_of s.packet };
 
     fn name(&self) -> Option<Name> {
-        self.packet.map(|stored| stored.label.name)
+        self.packet.map(|stored| stored.name)
     }
 }

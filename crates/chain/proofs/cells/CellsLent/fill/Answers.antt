@@ -39,7 +39,7 @@ returns c =
     let v = c.need-amount.ensures in
     let r = spare-enough l c.requires.sound c.args.size p c.requires.vacant in
     let le : c.need-amount.result ≤ l.spare = omega arith in
-    let new : Head = record { packet = Some (record { label = record { name = c.args.name; holder = c.args.name.maker; size = c.args.size }; first = l.free }) } in
+    let new : Head = record { packet = Some (record { name = c.args.name; holder = c.args.name.maker; size = c.args.size; first = l.free }) } in
     record {
       sound = rw (w.heads, w.links, w.spare)
           (fill_linked l c.requires.sound p f.0 f.1 c.need-amount.result c.args.size v le c.args.name c.wipe-self.result w.behind c.wipe-self.new.self.memory.now w.wiped);

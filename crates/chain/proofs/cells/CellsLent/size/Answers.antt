@@ -1,3 +1,4 @@
+use Rattle.std.proofs.Common.{◌∙◌}
 use Rattle.chain.proofs.Changes.{row_size}
 use Rattle.chain.proofs.cells.CellsLent.size.Goals as goal
 
@@ -5,4 +6,4 @@ pub returns : goal.returns
 returns c =
     let l = c.args.self.now in
     let e = c.stored.ensures in
-    row_size l c.requires.sound c.args.place e.within c.stored.result e.kept
+    c.from.ensures ∙ row_size l c.requires.sound c.args.place e.within c.stored.result e.kept
