@@ -69,7 +69,7 @@ pub fn lines_before(text: &[u8], place: usize) -> usize
 {
     let before = &text[..place.min(text.len())];
     let mut count = 0;
-    // A loop that adds up: a filter and its count take twice the instructions.
+    // A loop that adds up: a filter and its count take twice the time.
     for byte in before {
         if *byte == b'\n' {
             count += 1;

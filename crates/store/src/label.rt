@@ -1,4 +1,4 @@
-//! What a table may keep of a packet.
+//! What a table keeps of a packet.
 
 use crate::name::Name;
 
